@@ -1,0 +1,71 @@
+//! Rounds: their plans and their books.
+use crate::{Bytes, Item, Listed, Reply};
+
+/// An item with its answer, as the book of a round keeps it.
+#[derive(Debug, PartialEq, Drop)]
+pub struct Noted {
+    /// 0 the clock, 1 control, 2 sync, 3 and up the workers.
+    pub actor: u32,
+    /// The item's number in its actor's list, from 0.
+    pub number: u64,
+    pub item: Item,
+    pub reply: Reply,
+}
+
+/// An item with its actor and its number in the actor's list.
+#[derive(Debug, PartialEq, Drop)]
+pub struct Placed {
+    pub actor: u32,
+    pub number: u64,
+    pub item: Item,
+}
+
+/// What happened in a round.
+#[derive(Debug, PartialEq, Drop)]
+pub struct RoundBook {
+    /// The round's number, from 0.
+    pub number: u64,
+    /// In seconds.
+    pub moment: u64,
+    pub workers: u32,
+    pub buckets: u32,
+    /// The acts in order of place.
+    pub acts: Listed<Noted>,
+    /// The listings in order of the script.
+    pub shown: Listed<ShownText>,
+}
+
+/// What a round is to do: a list of items for each actor.
+#[derive(Debug, PartialEq, Drop)]
+pub struct RoundPlan {
+    /// In seconds.
+    pub moment: u64,
+    pub buckets: u32,
+    /// The items of the clock, of control, of sync and of each worker.
+    pub lists: Listed<Listed<Item>>,
+    /// The listings in order of the script.
+    pub shown: Listed<Shown>,
+}
+
+/// What is shown at the end of a round.
+#[derive(Debug, PartialEq, Drop)]
+pub enum Shown {
+    /// Services and servers.
+    List,
+    /// Entries and templates.
+    Conns,
+    /// The tables as ipvsadm words.
+    Save,
+    /// The answer to an ICMP error from a client's side.
+    IcmpIn(Bytes),
+    /// The answer to an ICMP error from a server's side.
+    IcmpOut(Bytes),
+}
+
+/// A listing with its lines.
+#[derive(Debug, PartialEq, Drop)]
+pub struct ShownText {
+    pub kind: Shown,
+    /// The lines between the first and the last, each with its line feed.
+    pub text: Bytes,
+}

@@ -1,0 +1,51 @@
+//! Real servers (ipvsadm(8)).
+use crate::{Addr, DestId, Method, ServiceKey};
+
+/// What a command says of a real server.
+#[derive(Clone, Copy, Debug, PartialEq, Eq)]
+pub struct DestSpec {
+    pub addr: Addr,
+    /// 0 stands for the packet's destination port.
+    pub port: u16,
+    pub method: Method,
+    /// 0 to 2,147,483,647. A server of weight 0 gets no new connection.
+    pub weight: u32,
+    /// At so many connections the server becomes overloaded; 0 means never.
+    pub upper: u32,
+    /// Below so many connections an overloaded server is free again; 0 means three quarters of `upper`.
+    pub lower: u32,
+}
+
+/// A real server, live or in the trash.
+#[derive(Clone, Copy, Debug, PartialEq, Eq)]
+pub struct Dest {
+    pub id: DestId,
+    pub service: ServiceKey,
+    pub spec: DestSpec,
+    pub overloaded: bool,
+    /// Whether it stands in its service; else it is in the trash.
+    pub live: bool,
+}
+
+/// A real server as a scheduler sees it.
+#[derive(Clone, Copy, Debug, PartialEq, Eq)]
+pub struct Candidate {
+    pub id: DestId,
+    pub weight: u32,
+    /// How many connection entries name it in state Established.
+    pub active: u64,
+    /// How many other connection entries name it.
+    pub inactive: u64,
+    /// Whether it is live, its weight isn't 0 and it isn't overloaded.
+    pub eligible: bool,
+}
+
+/// A real server in a snapshot, with its counts.
+#[derive(Clone, Copy, Debug, PartialEq, Eq)]
+pub struct DestRow {
+    pub dest: Dest,
+    pub active: u64,
+    pub inactive: u64,
+    /// How many persistence templates name it.
+    pub templates: u64,
+}

@@ -1,0 +1,45 @@
+//! What the headers of a packet say (RFC 791, RFC 768, RFC 9293).
+use crate::Addr;
+
+/// What the IPv4 header and the TCP or UDP header say. Ports and flags are 0 and false where they
+/// weren't read: in fragments and in other protocols.
+#[derive(Clone, Copy, Debug, PartialEq, Eq)]
+pub struct Head {
+    /// The length of the IP header in bytes.
+    pub header_len: u16,
+    /// The length of the packet in bytes.
+    pub total: u16,
+    /// The protocol's number.
+    pub code: u8,
+    pub tos: u8,
+    pub id: u16,
+    pub dont_fragment: bool,
+    /// Whether more fragments follow, or the offset isn't 0.
+    pub fragment: bool,
+    pub ttl: u8,
+    pub src: Addr,
+    pub dst: Addr,
+    pub sport: u16,
+    pub dport: u16,
+    pub syn: bool,
+    pub ack: bool,
+    pub fin: bool,
+    pub rst: bool,
+}
+
+/// Why bytes are no packet, in the order in which the causes are looked for.
+#[derive(Clone, Copy, Debug, PartialEq, Eq)]
+pub enum Malformed {
+    /// Fewer than 20 bytes.
+    Short,
+    /// The version isn't 4.
+    Version,
+    /// The header's length is below 5 words, or past the end.
+    HeaderLength,
+    /// The total length is below the header's, or past the end.
+    TotalLength,
+    /// The header's checksum is wrong.
+    HeaderSum,
+    /// The TCP or UDP header doesn't fit.
+    L4Short,
+}
