@@ -1,0 +1,16 @@
+pub mod Same
+pub mod Fields
+pub mod Reading
+pub mod Rewriting
+pub mod TcpStates
+pub mod Timeouts
+pub mod Numbers
+pub mod RoundRobin
+pub mod LeastLoad
+pub mod AddressHash
+pub mod MorePicks
+pub mod Messages
+pub mod MessageReading
+pub mod SyncRules
+pub mod Overload
+pub mod State

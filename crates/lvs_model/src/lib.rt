@@ -1,0 +1,4 @@
+//! The definitions of the director, and laws about them.
+#![tactic(auto)]
+
+pub mod worked_examples;

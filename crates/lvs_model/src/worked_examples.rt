@@ -1,0 +1,8 @@
+//! Worked examples of the definitions, which the prover computes.
+pub mod hashes;
+pub mod messages;
+pub mod numbers;
+pub mod picks;
+pub mod reading;
+pub mod rewriting;
+pub mod states;

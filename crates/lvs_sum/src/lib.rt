@@ -1,0 +1,2 @@
+//! Ones' complement sums of the Internet protocols (RFC 1624).
+#![tactic(auto)]
