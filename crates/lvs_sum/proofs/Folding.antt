@@ -54,3 +54,7 @@ ones_keep rest sum full =
     let before = full_split (rest + sum) full in
     let written : ℕ = if sum == 0 then 65535 else sum in
     full_of (rest + written) (before.0 + (if sum == 0 then 1 else 0)) (grind (arith, nat_tests, before.1)) (grind (arith, nat_tests, before.2))
+
+-- carries of 65535 don't tell in the fold of what isn't 0
+pub folded_carries : (n q : ℕ) → 0 < n → folded (65535 * q + n) ≡ folded n
+folded_carries n q some = omega (arith, folded_of n some, folded_of (65535 * q + n) (omega arith))
