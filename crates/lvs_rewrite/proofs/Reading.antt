@@ -37,10 +37,10 @@ not_false false is = absurd cc
 -- what the reading tells: the bytes are those of a header, with a packet of its length
 pub told : (bytes : List ℕ) (head : Head) → read bytes ≡ Ok head
     → (20 ≤ length bytes) × (20 ≤ header_len_of bytes) × (header_len_of bytes ≤ total_of bytes) × (is_valid_header (take (header_len_of bytes) bytes) ≡ true)
-      × (((is_tcp bytes && is_tcp_short bytes) || (is_udp bytes && is_udp_short bytes)) ≡ false) × (head_of bytes ≡ head)
+    × (((is_tcp bytes && is_tcp_short bytes) || (is_udp bytes && is_udp_short bytes)) ≡ false) × (head_of bytes ≡ head)
 told bytes head is =
     let p = passed (nat_lt (length bytes) 20) (not (version_of bytes == 4)) (nat_lt (header_len_of bytes) 20 || nat_lt (length bytes) (header_len_of bytes)) (nat_lt (total_of bytes) (header_len_of bytes) || nat_lt (length bytes) (total_of bytes))
-        (not (is_valid_header (take (header_len_of bytes) bytes))) ((is_tcp bytes && is_tcp_short bytes) || (is_udp bytes && is_udp_short bytes)) (head_of bytes) head is in
+    (not (is_valid_header (take (header_len_of bytes) bytes))) ((is_tcp bytes && is_tcp_short bytes) || (is_udp bytes && is_udp_short bytes)) (head_of bytes) head is in
     let lengths = neither (nat_lt (header_len_of bytes) 20) (nat_lt (length bytes) (header_len_of bytes)) p.2 in
     let totals = neither (nat_lt (total_of bytes) (header_len_of bytes)) (nat_lt (length bytes) (total_of bytes)) p.3 in
     (at_least (length bytes) 20 p.0, at_least (header_len_of bytes) 20 lengths.0, at_least (total_of bytes) (header_len_of bytes) totals.0, not_false (is_valid_header (take (header_len_of bytes) bytes)) p.4, p.5, p.6)
@@ -64,8 +64,8 @@ room_here : (bytes : List ℕ) → (20 ≤ header_len_of bytes) → (header_len_
 room_here bytes long within is whole ports =
     let one = one_long (is_fragment bytes) (code_of bytes == 6) (code_of bytes == 17) (is_tcp_short bytes) (is_udp_short bytes) ports is in
     let below = place_below (code_of bytes == 6) (is_tcp_short bytes) (is_udp_short bytes) (header_len_of bytes) (total_of bytes)
-        (λ e. left_over (total_of bytes) (header_len_of bytes) 20 (at_least (payload_len bytes) 20 (neither (nat_lt (payload_len bytes) 20) (nat_lt (data_offset bytes) 20) (neither (nat_lt (payload_len bytes) 20 || nat_lt (data_offset bytes) 20) (nat_lt (payload_len bytes) (data_offset bytes)) e).0).0) within)
-        (λ e. left_over (total_of bytes) (header_len_of bytes) 8 (at_least (payload_len bytes) 8 e) within) one in
+    (λ e. left_over (total_of bytes) (header_len_of bytes) 20 (at_least (payload_len bytes) 20 (neither (nat_lt (payload_len bytes) 20) (nat_lt (data_offset bytes) 20) (neither (nat_lt (payload_len bytes) 20 || nat_lt (data_offset bytes) 20) (nat_lt (payload_len bytes) (data_offset bytes)) e).0).0) within)
+    (λ e. left_over (total_of bytes) (header_len_of bytes) 8 (at_least (payload_len bytes) 8 e) within) one in
     (long, omega (arith, below.0), omega (arith, below.1))
 
 pub room : (bytes : List ℕ) (head : Head) → read bytes ≡ Ok head → head.total ≡ length bytes → has_ports head ≡ true → (20 ≤ head.header_len) × (checksum_place head + 2 ≤ length bytes) × (head.header_len + 8 ≤ length bytes)

@@ -4,6 +4,8 @@
 mod fields;
 mod masq;
 mod sums;
+#[cfg(test)]
+mod tests;
 mod tunnel;
 
 pub use masq::{masq_in, masq_out};
