@@ -1,7 +1,7 @@
 -- A folded number, and updates that keep a sum of all ones.
 use Rattle.std.proofs.Common.{◌≡◌, ℕ, ◌+◌, ◌-◌, ◌*◌, ◌/◌, ◌%◌, ◌<◌, ◌≤◌, zero, suc, refl, arith}
 use Rattle.std.proofs.lemmas.Bool.Decides.{nat_tests}
-use Rattle.std.specs.Prelude.{if◌then◌else◌, ◌==◌}
+use Rattle.std.specs.Prelude.{if◌then◌else◌, ◌==◌, true}
 use Rattle.lvs_sum.specs.Sums.{folded, complement, update16, update32}
 
 -- a positive number's fold
@@ -58,3 +58,10 @@ ones_keep rest sum full =
 -- carries of 65535 don't tell in the fold of what isn't 0
 pub folded_carries : (n q : ℕ) → 0 < n → folded (65535 * q + n) ≡ folded n
 folded_carries n q some = omega (arith, folded_of n some, folded_of (65535 * q + n) (omega arith))
+
+-- the test that a sum is of all ones
+pub test_full : (n : ℕ) → (folded n == 65535) ≡ true → folded n ≡ 65535
+test_full n is = grind (arith, nat_tests)
+
+pub full_test : (n : ℕ) → folded n ≡ 65535 → (folded n == 65535) ≡ true
+full_test n full = rw full refl

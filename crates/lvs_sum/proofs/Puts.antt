@@ -1,6 +1,6 @@
 -- A list with some of its elements replaced by as many others: its length, its elements and its parts.
-use Rattle.std.proofs.Common.{◌≡◌, ℕ, ◌+◌, ◌-◌, ◌<◌, ◌≤◌, List, [], ◌∷◌, ◌++◌, length, get_or, take, drop, sym, ap, arith, rules, length-append, length-drop, ◌∙◌}
-use Rattle.std.proofs.lemmas.List.{length-take-le, same_lists, places, take-append-le, drop-append-le, drop-drop, take-take, drop-take, take_at, drop_at, append_assoc}
+use Rattle.std.proofs.Common.{◌≡◌, ℕ, ◌+◌, ◌<◌, ◌≤◌, List, ◌++◌, length, get_or, take, drop, arith, rules, length-append, length-drop}
+use Rattle.std.proofs.lemmas.List.{length-take-le, same_lists, places}
 
 -- the elements w in place of the k ones from `at` on
 abbrev pub put : {X : Type 0} → ℕ → ℕ → List X → List X → List X

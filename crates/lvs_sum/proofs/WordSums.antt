@@ -75,8 +75,12 @@ pub word_sum-two_puts : (check sum at new : ℕ) (bytes : List ℕ) → check % 
     word_sum (put_word check sum (put_word at new bytes)) + (word bytes check + word bytes at) ≡ word_sum bytes + (sum + new)
 word_sum-two_puts check sum at new bytes even even_too apart fits fits_too =
     let as_long : length (put_word at new bytes) ≡ length bytes = length_put at 2 (new / 256 ∷ new % 256 ∷ []) bytes refl fits_too in
-    omega (arith, word_sum-put_word at new bytes even_too fits_too, word_sum-put_word check sum (put_word at new bytes) even (omega (arith, as_long)),
-        word-put_word at new check bytes fits_too even_too even apart)
+    omega (
+      arith,
+      word_sum-put_word at new bytes even_too fits_too,
+      word_sum-put_word check sum (put_word at new bytes) even (omega (arith, as_long)),
+      word-put_word at new check bytes fits_too even_too even apart,
+    )
 
 -- two words that are apart are no more than the sum
 pub two_words_le : (check at : ℕ) (bytes : List ℕ) → check % 2 ≡ 0 → at % 2 ≡ 0 → check ≢ at → check + 2 ≤ length bytes → at + 2 ≤ length bytes →
@@ -89,5 +93,9 @@ pub word_sum-word_number : (check sum at new : ℕ) (bytes : List ℕ) → check
 word_sum-word_number check sum at new bytes even even_too before fits =
     let w : List ℕ = new / 65536 / 256 ∷ new / 65536 % 256 ∷ new % 65536 / 256 ∷ new % 65536 % 256 ∷ [] in
     let as_long : length (put_number at new bytes) ≡ length bytes = length_put at 4 w bytes refl fits in
-    omega (arith, word_sum-put_number at new bytes even_too fits, word_sum-put_word check sum (put_number at new bytes) even (omega (arith, as_long)),
-        word-put_before at 4 check w bytes fits before)
+    omega (
+      arith,
+      word_sum-put_number at new bytes even_too fits,
+      word_sum-put_word check sum (put_number at new bytes) even (omega (arith, as_long)),
+      word-put_before at 4 check w bytes fits before,
+    )

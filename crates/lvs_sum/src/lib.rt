@@ -2,6 +2,8 @@
 #![tactic(auto)]
 
 mod change;
+#[cfg(test)]
+mod tests;
 mod words;
 
 pub use change::{update16, update32};
