@@ -1,1 +1,4 @@
+pub mod Changes
+pub mod Kept
+pub mod Packets
 pub mod Reading

@@ -1,6 +1,8 @@
 use Rattle.std.proofs.Common.{◌≡◌, ◌+◌, ◌≤◌, length, arith}
 use Rattle.lvs_model.specs.Rewriting.{checksum_place}
 use Rattle.lvs_rewrite.proofs.Reading.{room}
+use Rattle.lvs_rewrite.proofs.Changes.{Places}
+use Rattle.lvs_rewrite.proofs.Packets.{as_changed}
 use Rattle.lvs_rewrite.proofs.masq.masq_in.Goals as goal
 
 -- src/masq.rt:26:5
