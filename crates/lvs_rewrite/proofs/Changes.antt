@@ -40,7 +40,7 @@ other_word at n bytes i fits apart = get_or_put_other at 2 (word_bytes n) bytes 
 pub other_number : (at n : ℕ) (bytes : List ℕ) (i : ℕ) → at + 4 ≤ length bytes → (at ≤ i → at + 4 ≤ i) → get_or (with_number at n bytes) i 0 ≡ get_or bytes i 0
 other_number at n bytes i fits apart = get_or_put_other at 4 (number_bytes n) bytes i refl fits apart
 
-pub this_word : (at n : ℕ) (bytes : List ℕ) → at + 2 ≤ length bytes → word_at (with_word at n bytes) at ≡ n
+this_word : (at n : ℕ) (bytes : List ℕ) → at + 2 ≤ length bytes → word_at (with_word at n bytes) at ≡ n
 this_word at n bytes fits =
     let high = get_or_put_in at 2 (word_bytes n) bytes 0 0 refl fits (omega arith) in
     let low = get_or_put_in at 2 (word_bytes n) bytes 1 0 refl fits (omega arith) in
@@ -132,11 +132,23 @@ address_changed end address port check number new_port header_sum part_sum bytes
     let e2 = length_word (end + port) new_port one (omega arith) in
     let e3 = length_word 10 header_sum two (omega arith) in
     let same = (λ (i : ℕ) (low : address ≤ i) (high : i < address + 4).
-        other_word (end + check) part_sum three i (omega arith) (λ h. omega arith)
-        ∙ other_word 10 header_sum two i (omega arith) (λ h. omega arith)
-        ∙ other_word (end + port) new_port one i (omega arith) (λ h. omega arith)) in
+    other_word (end + check) part_sum three i (omega arith) (λ h. omega arith)
+    ∙ other_word 10 header_sum two i (omega arith) (λ h. omega arith)
+    ∙ other_word (end + port) new_port one i (omega arith) (λ h. omega arith)) in
     let b0 : get_or all address 0 ≡ get_or one address 0 = same address (omega arith) (omega arith) in
     let b1 : get_or all (address + 1) 0 ≡ get_or one (address + 1) 0 = same (address + 1) (omega arith) (omega arith) in
     let b2 : get_or all (address + 2) 0 ≡ get_or one (address + 2) 0 = same (address + 2) (omega arith) (omega arith) in
     let b3 : get_or all (address + 2 + 1) 0 ≡ get_or one (address + 2 + 1) 0 = same (address + 2 + 1) (omega arith) (omega arith) in
     omega (arith, b0, b1, b2, b3, this_number address number bytes (omega arith))
+
+-- the sum of the part afterwards
+pub last_word : (end address port check number new_port header_sum part_sum : ℕ) (bytes : List ℕ) → Places (length bytes) end address port check
+    → word_at (changed end address port check number new_port header_sum part_sum bytes) (end + check) ≡ part_sum
+last_word end address port check number new_port header_sum part_sum bytes places =
+    let one : List ℕ = with_number address number bytes in
+    let two : List ℕ = with_word (end + port) new_port one in
+    let three : List ℕ = with_word 10 header_sum two in
+    let e1 = length_number address number bytes (omega arith) in
+    let e2 = length_word (end + port) new_port one (omega arith) in
+    let e3 = length_word 10 header_sum two (omega arith) in
+    this_word (end + check) part_sum three (omega arith)

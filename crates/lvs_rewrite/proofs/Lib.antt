@@ -1,4 +1,5 @@
 pub mod Changes
 pub mod Kept
+pub mod Masquerade
 pub mod Packets
 pub mod Reading

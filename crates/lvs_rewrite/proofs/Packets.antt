@@ -7,8 +7,8 @@ use Rattle.lvs_sum.specs.Sums.{folded, word_sum, update16, update32, is_valid_he
 use Rattle.lvs_sum.proofs.Folding.{test_full, full_test}
 use Rattle.lvs_sum.proofs.Keeping.{AreBytes}
 use Rattle.lvs_model.specs.Fields.{word_at, number_at}
-use Rattle.lvs_model.specs.Rewriting.{with_word, with_number, with_header_sum, with_part_sum, moved_sum, part_sum, checksum_place}
-use Rattle.lvs_rewrite.proofs.Changes.{Places, changed, other_word, other_number, length_word, length_number, this_word, stays, length_changed, address_changed}
+use Rattle.lvs_model.specs.Rewriting.{with_word, with_number, with_header_sum, with_part_sum, moved_sum, part_sum, udp_sum, checksum_place}
+use Rattle.lvs_rewrite.proofs.Changes.{Places, changed, other_word, other_number, length_word, length_number, last_word, stays, length_changed, address_changed}
 use Rattle.lvs_rewrite.specs.Validity.{has_valid_header, has_valid_part, udp_field}
 use Rattle.lvs_rewrite.proofs.Kept.{header_kept, part_kept}
 use Rattle.lvs_rewrite.proofs.Reading.{Seen}
@@ -33,7 +33,7 @@ part_sum_of head old new old_port new_port bytes = part_sum (head.code == 6) (wo
 -- no field is written over by an earlier one
 pub as_changed : (head : Head) (old new : Addr) (old_port new_port address port : ℕ) (bytes : List ℕ) → Places (length bytes) head.header_len address port (check_of head)
     → rewritten head old new old_port new_port address port bytes
-      ≡ changed head.header_len address port (check_of head) new.number new_port (header_sum_of old new bytes) (part_sum_of head old new old_port new_port bytes) bytes
+    ≡ changed head.header_len address port (check_of head) new.number new_port (header_sum_of old new bytes) (part_sum_of head old new old_port new_port bytes) bytes
 as_changed head old new old_port new_port address port bytes places =
     let end : ℕ = head.header_len in
     let check : ℕ = check_of head in
@@ -43,19 +43,19 @@ as_changed head old new old_port new_port address port bytes places =
     let e1 = length_number address new.number bytes (omega arith) in
     let e2 = length_word (end + port) new_port one (omega arith) in
     let to_two = (λ (i : ℕ) (past_address : address ≤ i → address + 4 ≤ i) (past_port : end + port ≤ i → end + port + 2 ≤ i).
-        other_word (end + port) new_port one i (omega arith) past_port ∙ other_number address new.number bytes i (omega arith) past_address) in
+    other_word (end + port) new_port one i (omega arith) past_port ∙ other_number address new.number bytes i (omega arith) past_address) in
     let high : get_or two 10 0 ≡ get_or bytes 10 0 = to_two 10 (λ h. omega arith) (λ h. omega arith) in
     let low : get_or two 11 0 ≡ get_or bytes 11 0 = to_two 11 (λ h. omega arith) (λ h. omega arith) in
     let header_field : word_at two 10 ≡ word_at bytes 10 = omega (arith, high, low) in
     let to_three = (λ (i : ℕ) (past_address : address ≤ i → address + 4 ≤ i) (past_port : end + port ≤ i → end + port + 2 ≤ i) (past_sum : 10 ≤ i → 12 ≤ i).
-        other_word 10 (update32 (word_at two 10) old.number new.number) two i (omega arith) past_sum ∙ to_two i past_address past_port) in
+    other_word 10 (update32 (word_at two 10) old.number new.number) two i (omega arith) past_sum ∙ to_two i past_address past_port) in
     let high_too : get_or three (end + check) 0 ≡ get_or bytes (end + check) 0 = to_three (end + check) (λ h. omega arith) (λ h. omega arith) (λ h. omega arith) in
     let low_too : get_or three (end + check + 1) 0 ≡ get_or bytes (end + check + 1) 0 = to_three (end + check + 1) (λ h. omega arith) (λ h. omega arith) (λ h. omega arith) in
     let part_field : word_at three (end + check) ≡ word_at bytes (end + check) = omega (arith, high_too, low_too) in
     ap (λ (n : ℕ). with_word (end + check) (part_sum (head.code == 6) n (moved_sum old new old_port new_port n)) three) part_field
     ∙ ap (λ (n : ℕ). with_word (end + check) (part_sum_of head old new old_port new_port bytes) (with_word 10 (update32 n old.number new.number) two)) header_field
 
-abbrev check_at : Bool → ℕ
+abbrev pub check_at : Bool → ℕ
 check_at t = if t then 16 else 6
 
 check_cases : (t : Bool) → (6 ≤ check_at t) × (check_at t % 2 ≡ 0) × (check_at t ≢ 12)
@@ -88,7 +88,7 @@ same_sum s s' d d' code code' size size' w w' e1 e2 e3 e4 e5 = cc
 -- the sum of the part and its pseudo header, told by the numbers that stand in the header
 part_sum_is : (bytes : List ℕ) (end s d code : ℕ) → header_len_of bytes ≡ end → total_of bytes ≡ length bytes → number_at bytes 12 ≡ s → number_at bytes 16 ≡ d → code_of bytes ≡ code
     → number_at bytes 12 / 65536 + number_at bytes 12 % 65536 + number_at bytes 16 / 65536 + number_at bytes 16 % 65536 + code_of bytes + payload_len bytes + word_sum (payload_of bytes)
-      ≡ s / 65536 + s % 65536 + d / 65536 + d % 65536 + code + (length bytes - end) + word_sum (drop end bytes)
+    ≡ s / 65536 + s % 65536 + d / 65536 + d % 65536 + code + (length bytes - end) + word_sum (drop end bytes)
 part_sum_is bytes end s d code is_end is_total is_s is_d is_code =
     let whole : take (total_of bytes) bytes ≡ bytes = take_all (total_of bytes) bytes (omega arith) in
     let payload : payload_of bytes ≡ drop end bytes = ap (λ (n : ℕ). drop n (take (total_of bytes) bytes)) is_end ∙ ap (drop end) whole in
@@ -180,8 +180,8 @@ part_valid_in head old new old_port new_port port bytes r field valid =
     let source : number_at now 12 ≡ s = other_address 12 end 16 port (check_of head) new.number new_port (header_sum_of old new bytes) (part_sum_of head old new old_port new_port bytes) bytes r.places refl in
     let destination : number_at now 16 ≡ new.number = address_changed end 16 port (check_of head) new.number new_port (header_sum_of old new bytes) (part_sum_of head old new old_port new_port bytes) bytes r.places in
     let after = part_sum_is now end s new.number head.code (same.len ∙ r.seen.len) (same.total ∙ r.seen.total ∙ sym same.size) source destination (same.code ∙ r.seen.code)
-        ∙ beside_in s new.number head.code (length now - end) (word_sum (drop end now))
-        ∙ ap (λ (n : ℕ). s / 65536 + s % 65536 + head.code + (n - end) + (new.number / 65536 + new.number % 65536) + word_sum (drop end now)) same.size in
+    ∙ beside_in s new.number head.code (length now - end) (word_sum (drop end now))
+    ∙ ap (λ (n : ℕ). s / 65536 + s % 65536 + head.code + (n - end) + (new.number / 65536 + new.number % 65536) + word_sum (drop end now)) same.size in
     let here : has_valid_part now ≡ true = full_test _ (ap folded after ∙ kept) in
     ap has_valid_part (as_changed head old new old_port new_port 16 port bytes r.places) ∙ here
 
@@ -201,7 +201,42 @@ part_valid_out head old new old_port new_port port bytes r field valid =
     let destination : number_at now 16 ≡ d = other_address 16 end 12 port (check_of head) new.number new_port (header_sum_of old new bytes) (part_sum_of head old new old_port new_port bytes) bytes r.places refl in
     let source : number_at now 12 ≡ new.number = address_changed end 12 port (check_of head) new.number new_port (header_sum_of old new bytes) (part_sum_of head old new old_port new_port bytes) bytes r.places in
     let after = part_sum_is now end new.number d head.code (same.len ∙ r.seen.len) (same.total ∙ r.seen.total ∙ sym same.size) source destination (same.code ∙ r.seen.code)
-        ∙ beside_out new.number d head.code (length now - end) (word_sum (drop end now))
-        ∙ ap (λ (n : ℕ). d / 65536 + d % 65536 + head.code + (n - end) + (new.number / 65536 + new.number % 65536) + word_sum (drop end now)) same.size in
+    ∙ beside_out new.number d head.code (length now - end) (word_sum (drop end now))
+    ∙ ap (λ (n : ℕ). d / 65536 + d % 65536 + head.code + (n - end) + (new.number / 65536 + new.number % 65536) + word_sum (drop end now)) same.size in
     let here : has_valid_part now ≡ true = full_test _ (ap folded after ∙ kept) in
     ap has_valid_part (as_changed head old new old_port new_port 12 port bytes r.places) ∙ here
+
+udp_none : (field updated : ℕ) → field ≡ 0 → udp_sum field updated ≡ 0
+udp_none field updated is = grind (arith, nat_tests)
+
+udp_some : (field updated : ℕ) → field ≢ 0 → udp_sum field updated ≢ 0
+udp_some field updated some = grind (arith, nat_tests)
+
+-- the UDP checksum field afterwards
+field_after : (head : Head) (old new : Addr) (old_port new_port address port : ℕ) (bytes : List ℕ) → Rewriting bytes head old old_port address port → (head.code == 6) ≡ false
+    → (updated : ℕ) × (udp_field (rewritten head old new old_port new_port address port bytes) ≡ udp_sum (udp_field bytes) updated)
+field_after head old new old_port new_port address port bytes r udp =
+    let end : ℕ = head.header_len in
+    let updated : ℕ = moved_sum old new old_port new_port (udp_field bytes) in
+    let now : List ℕ = changed end address port (check_of head) new.number new_port (header_sum_of old new bytes) (part_sum_of head old new old_port new_port bytes) bytes in
+    let same : Stayed bytes now = stayed end address port (check_of head) new.number new_port (header_sum_of old new bytes) (part_sum_of head old new old_port new_port bytes) bytes r.places in
+    let place : check_of head ≡ 6 = ap check_at udp in
+    let written : word_at now (end + check_of head) ≡ part_sum_of head old new old_port new_port bytes = last_word end address port (check_of head) new.number new_port (header_sum_of old new bytes) (part_sum_of head old new old_port new_port bytes) bytes r.places in
+    let is_udp : part_sum_of head old new old_port new_port bytes ≡ udp_sum (word_at bytes (end + check_of head)) (moved_sum old new old_port new_port (word_at bytes (end + check_of head))) =
+    ap (λ (t : Bool). part_sum t (word_at bytes (end + check_of head)) (moved_sum old new old_port new_port (word_at bytes (end + check_of head)))) udp in
+    let before : word_at bytes (end + check_of head) ≡ udp_field bytes = ap (λ (n : ℕ). word_at bytes (end + n)) place ∙ ap (λ (n : ℕ). word_at bytes (n + 6)) (sym r.seen.len) in
+    let here : udp_field now ≡ word_at now (end + check_of head) = ap (λ (n : ℕ). word_at now (n + 6)) (same.len ∙ r.seen.len) ∙ ap (λ (n : ℕ). word_at now (end + n)) (sym place) in
+    (updated, ap udp_field (as_changed head old new old_port new_port address port bytes r.places) ∙ here ∙ written ∙ is_udp ∙ ap (λ (n : ℕ). udp_sum n (moved_sum old new old_port new_port n)) before)
+
+-- a field of 0 stays 0, and another doesn't become 0
+pub field_none : (head : Head) (old new : Addr) (old_port new_port address port : ℕ) (bytes : List ℕ) → Rewriting bytes head old old_port address port → (head.code == 6) ≡ false
+    → udp_field bytes ≡ 0 → udp_field (rewritten head old new old_port new_port address port bytes) ≡ 0
+field_none head old new old_port new_port address port bytes r udp none =
+    let after = field_after head old new old_port new_port address port bytes r udp in
+    after.1 ∙ udp_none (udp_field bytes) after.0 none
+
+pub field_some : (head : Head) (old new : Addr) (old_port new_port address port : ℕ) (bytes : List ℕ) → Rewriting bytes head old old_port address port → (head.code == 6) ≡ false
+    → udp_field bytes ≢ 0 → udp_field (rewritten head old new old_port new_port address port bytes) ≢ 0
+field_some head old new old_port new_port address port bytes r udp some is =
+    let after = field_after head old new old_port new_port address port bytes r udp in
+    udp_some (udp_field bytes) after.0 some (sym after.1 ∙ is)
