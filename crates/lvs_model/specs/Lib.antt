@@ -9,6 +9,7 @@ pub mod RoundRobin
 pub mod LeastLoad
 pub mod AddressHash
 pub mod MorePicks
+pub mod ExampleServers
 pub mod Messages
 pub mod MessageReading
 pub mod SyncRules
