@@ -1,5 +1,6 @@
 -- Reading a sync message, with the first cause for which bytes are none (version 1: the layout of Linux IPVS; version 0, the causes and their order: this project's profile).
-use Rattle.std.specs.Prelude.{ℕ, zero, suc, ◌+◌, ◌*◌, ◌/◌, ◌%◌, Bool, true, false, not, ◌&&◌, ◌||◌, ◌==◌, nat_lt, List, [], ◌∷◌, length, take, drop, slice_index, Result, Ok, Err, if◌then◌else◌, bit_and}
+use Rattle.std.specs.Prelude.{ℕ, zero, suc, ◌/◌, ◌%◌, Bool, true, false, not, ◌&&◌, ◌||◌, ◌==◌, nat_lt, List, [], ◌∷◌, length, take, drop, slice_index, Result, Ok, Err, if◌then◌else◌, bit_and}
+use Rattle.std.specs.Int.{next_multiple_of}
 use Rattle.lvs_types.specs.declared.sync.SyncRecord.{SyncRecord}
 use Rattle.lvs_types.specs.declared.sync.SyncItem.{SyncItem}
 use Rattle.lvs_types.specs.declared.sync.SyncItem.TheVariants.{V4, V6}
@@ -72,11 +73,7 @@ record_of bytes = record {
 abbrev pub item_of : List ℕ → SyncItem
 item_of bytes = if is_v6 bytes then V6 else V4 (record_of bytes)
 
--- the next multiple of 4, at which the next record begins
-abbrev pub padded : ℕ → ℕ
-padded size = (size + 3) / 4 * 4
-
--- a record of version 1; the bytes after it begin behind its padding, which may be cut off where the message ends
+-- a record of version 1; the bytes after it begin behind its padding, at the next multiple of 4, and the padding may be cut off where the message ends
 abbrev pub read_record : List ℕ → RecordRead
 read_record [] = Err Count
 read_record (byte ∷ bytes) =
@@ -85,7 +82,7 @@ read_record (byte ∷ bytes) =
     else (if not (record_version all == 0) then Err RecordVersion
     else (if nat_lt (length all) (record_size all) || nat_lt (record_size all) (least_size all) then Err RecordShort
     else (if not (is_v6 all) && not (are_options 0 (drop 36 (take (record_size all) all))) then Err Options
-    else Ok (item_of all, drop (padded (record_size all)) all))))
+    else Ok (item_of all, drop (next_multiple_of (record_size all) 4) all))))
 
 -- the fields of a record of version 0, which has no mark and no timeout
 abbrev pub old_record_of : List ℕ → SyncRecord
