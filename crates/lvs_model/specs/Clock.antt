@@ -1,5 +1,5 @@
 -- The clock: the moment, the sweep of a bucket, and the reaping of templates and of servers that nothing names (this project's profile).
-use Rattle.std.specs.Prelude.{ℕ, not, ◌+◌, Bool, true, false, ◌&&◌, ◌||◌, ◌==◌, List, Option, Some, None, if◌then◌else◌, nat_le, nat_lt, map, length, count_by}
+use Rattle.std.specs.Prelude.{ℕ, not, ◌+◌, Bool, ◌&&◌, ◌==◌, List, Option, Some, None, if◌then◌else◌, nat_le, nat_lt, map, length, count_by}
 use Rattle.std.specs.List.{filter, list_any, filter_map}
 use Rattle.lvs_types.specs.declared.dest.Dest.{Dest}
 use Rattle.lvs_types.specs.declared.entry.Entry.{Entry}
@@ -68,8 +68,7 @@ is_released entries templates d = not d.live && (refs d.id entries templates == 
 -- the templates that are due, and then the servers in the trash that nothing names
 abbrev pub reap : State → Reply × State
 reap s =
-    let templates = reaped_templates s in
-    (
+    let templates = reaped_templates s in (
       reply.Reaped (count_by (is_over s) s.templates) (count_by (is_held s) s.templates) (count_by (is_released s.entries templates) s.dests),
       record s { templates = templates; dests = without (is_released s.entries templates) s.dests },
     )

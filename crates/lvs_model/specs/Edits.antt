@@ -1,5 +1,5 @@
 -- Edits of the tables, the timeouts and the daemons (ipvsadm(8)): the first refusal in the order of each command, which leaves the state as it was, or what the edit makes of it.
-use Rattle.std.specs.Prelude.{ℕ, not, ◌+◌, Bool, true, false, ◌&&◌, ◌==◌, List, [], ◌∷◌, ◌++◌, Option, Some, None, if◌then◌else◌, nat_lt, is_some}
+use Rattle.std.specs.Prelude.{ℕ, not, ◌+◌, Bool, true, false, ◌&&◌, ◌==◌, List, [], ◌∷◌, ◌++◌, Option, Some, None, if◌then◌else◌, nat_lt}
 use Rattle.std.specs.List.{find, list_any, filter_map}
 use Rattle.lvs_types.specs.declared.addr.Addr.{Addr}
 use Rattle.lvs_types.specs.declared.addr.DestId.{DestId}

@@ -1,10 +1,10 @@
 -- A packet is forwarded, and its entry and the pending sync records follow.
-use Rattle.std.specs.Prelude.{ℕ, ◌+◌, Bool, true, false, ◌&&◌, ◌==◌, List, [], ◌∷◌, ◌++◌, Option, Some, None, if◌then◌else◌, is_some}
+use Rattle.std.specs.Prelude.{ℕ, ◌+◌, ◌&&◌, List, [], ◌∷◌, ◌++◌, Option, Some, None, if◌then◌else◌, is_some}
 use Rattle.lvs_types.specs.declared.head.Head.{Head}
 use Rattle.lvs_types.specs.declared.service.Method.{Method}
 use Rattle.lvs_types.specs.declared.service.Method.TheVariants.{Masq, Tunnel, Direct}
 use Rattle.lvs_types.specs.declared.entry.Direction.{Direction}
-use Rattle.lvs_types.specs.declared.entry.Direction.TheVariants.{Input, Output, InputOnly}
+use Rattle.lvs_types.specs.declared.entry.Direction.TheVariants.{Input, InputOnly}
 use Rattle.lvs_types.specs.declared.entry.TcpState.{TcpState}
 use Rattle.lvs_types.specs.declared.entry.Entry.{Entry}
 use Rattle.lvs_types.specs.declared.addr.Addr.{Addr}
@@ -64,8 +64,7 @@ forwarded s p method daddr dport =
 -- a packet of a connection that is there
 abbrev pub forward_known : State → Packet → Entry → Reply × State
 forward_known s p e =
-    let after = after_packet s p e in
-    (
+    let after = after_packet s p e in (
       forwarded s p e.method e.daddr e.dport,
       record s { entries = put_entry after s.entries; pending = s.pending ++ records_due s e.state after },
     )

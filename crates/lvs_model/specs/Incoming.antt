@@ -11,7 +11,6 @@ use Rattle.lvs_types.specs.declared.entry.Entry.{Entry}
 use Rattle.lvs_types.specs.declared.settings.Settings.{Settings}
 use Rattle.lvs_types.specs.declared.reply.Reply.{Reply}
 use Rattle.lvs_types.specs.declared.reply.Reply.TheVariants as reply
-use Rattle.lvs_types.specs.declared.reply.DropCause.{DropCause}
 use Rattle.lvs_types.specs.declared.reply.DropCause.TheVariants as drops
 use Rattle.lvs_model.specs.State.{State}
 use Rattle.lvs_model.specs.Lists.{without}

@@ -1,11 +1,9 @@
 -- A record of a sync message arrives (the connection synchronisation protocol; what a record makes of the tables is this project's profile).
 use Rattle.std.specs.Prelude.{ℕ, ◌+◌, ◌%◌, slice_get, Bool, true, false, ◌&&◌, ◌==◌, List, [], ◌∷◌, ◌++◌, Option, Some, None, if◌then◌else◌}
-use Rattle.lvs_types.specs.declared.addr.DestId.{DestId}
 use Rattle.lvs_types.specs.declared.service.Proto.{Proto}
 use Rattle.lvs_types.specs.declared.service.Proto.TheVariants.{Tcp, Udp}
 use Rattle.lvs_types.specs.declared.service.Method.{Method}
 use Rattle.lvs_types.specs.declared.service.Method.TheVariants.{Masq, Tunnel, Direct}
-use Rattle.lvs_types.specs.declared.dest.Dest.{Dest}
 use Rattle.lvs_types.specs.declared.entry.TcpState.{TcpState}
 use Rattle.lvs_types.specs.declared.entry.TcpState.TheVariants.{None0, Established, SynSent, SynRecv, FinWait, TimeWait, Close, CloseWait, LastAck, Listen, SynAck}
 use Rattle.lvs_types.specs.declared.entry.Key.{Key}
@@ -24,7 +22,7 @@ use Rattle.lvs_model.specs.Same.{addr_eq}
 use Rattle.lvs_model.specs.Lists.{without}
 use Rattle.lvs_model.specs.SyncRules.{accept, is_template_record}
 use Rattle.lvs_model.specs.Lookups.{entry_at, template_at, has_template_key}
-use Rattle.lvs_model.specs.Binding.{put_entry, try_binding, count_bound, server_for_entry, put_template, template_tried}
+use Rattle.lvs_model.specs.Binding.{put_entry, try_binding, put_template, template_tried}
 use Rattle.lvs_model.specs.Incoming.{end_entry}
 
 -- a timeout of 0 counts as 180 seconds

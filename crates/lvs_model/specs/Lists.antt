@@ -1,6 +1,6 @@
 -- Words on lists that std lacks.
-use Rattle.std.specs.Prelude.{not, ◌≡◌, ℕ, ◌<◌, Bool, true, false, List, [], ◌∷◌, Option, Some, None, if◌then◌else◌, length, slice_get, nat_le}
-use Rattle.std.specs.List.{find, filter}
+use Rattle.std.specs.Prelude.{not, ◌≡◌, ℕ, ◌<◌, Bool, List, [], ◌∷◌, Option, Some, None, if◌then◌else◌, length, slice_get, nat_le}
+use Rattle.std.specs.List.{filter}
 
 -- the first element that passes, changed
 abbrev pub update_first : {X : Type 0} → (X → Bool) → (X → X) → List X → List X

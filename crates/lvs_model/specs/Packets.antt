@@ -1,5 +1,5 @@
 -- A packet that the director looks at: unfragmented TCP or UDP.
-use Rattle.std.specs.Prelude.{ℕ, not, Bool, true, false, ◌&&◌, ◌||◌, List, Option, Some, None, if◌then◌else◌, nat_lt}
+use Rattle.std.specs.Prelude.{ℕ, not, Bool, true, false, ◌&&◌, ◌||◌, List, Option, None, if◌then◌else◌, nat_lt}
 use Rattle.lvs_types.specs.declared.head.Head.{Head}
 use Rattle.lvs_types.specs.declared.service.Proto.{Proto}
 use Rattle.lvs_types.specs.declared.service.Proto.TheVariants.{Tcp, Udp}

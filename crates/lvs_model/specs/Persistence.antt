@@ -1,5 +1,5 @@
 -- Persistence: the template of a client and a service (ipvsadm(8), -p and -M).
-use Rattle.std.specs.Prelude.{ℕ, not, ◌+◌, ◌-◌, ◌*◌, ◌/◌, ◌^◌, Bool, true, false, ◌&&◌, ◌==◌, List, Option, Some, None, if◌then◌else◌, nat_lt}
+use Rattle.std.specs.Prelude.{ℕ, not, ◌-◌, ◌*◌, ◌/◌, ◌^◌, Bool, ◌&&◌, ◌==◌, List, Option, Some, None, if◌then◌else◌, nat_lt}
 use Rattle.lvs_types.specs.declared.addr.Addr.{Addr}
 use Rattle.lvs_types.specs.declared.addr.DestId.{DestId}
 use Rattle.lvs_types.specs.declared.service.ServiceKey.{ServiceKey}
@@ -8,7 +8,6 @@ use Rattle.lvs_types.specs.declared.service.Service.{Service}
 use Rattle.lvs_types.specs.declared.dest.Dest.{Dest}
 use Rattle.lvs_types.specs.declared.settings.Settings.{Settings}
 use Rattle.lvs_types.specs.declared.template.TemplateKey.{TemplateKey}
-use Rattle.lvs_types.specs.declared.template.Template.{Template}
 use Rattle.lvs_model.specs.Same.{proto_code}
 use Rattle.lvs_model.specs.Lookups.{dest_at}
 

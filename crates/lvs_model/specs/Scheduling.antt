@@ -1,11 +1,9 @@
 -- A new connection: its service, its template, the pick of a server, and its entry.
-use Rattle.std.specs.Prelude.{ℕ, ◌+◌, Bool, true, false, ◌&&◌, ◌==◌, List, [], ◌∷◌, ◌++◌, Option, Some, None, if◌then◌else◌, map, slice_get}
-use Rattle.lvs_types.specs.declared.addr.Addr.{Addr}
+use Rattle.std.specs.Prelude.{ℕ, ◌+◌, Bool, true, false, ◌==◌, [], ◌∷◌, ◌++◌, Option, Some, None, if◌then◌else◌, map, slice_get}
 use Rattle.lvs_types.specs.declared.addr.TemplateId.{TemplateId}
 use Rattle.lvs_types.specs.declared.head.Head.{Head}
 use Rattle.lvs_types.specs.declared.service.Proto.{Proto}
 use Rattle.lvs_types.specs.declared.service.Proto.TheVariants.{Tcp, Udp}
-use Rattle.lvs_types.specs.declared.service.Method.{Method}
 use Rattle.lvs_types.specs.declared.service.ServiceKey.{ServiceKey}
 use Rattle.lvs_types.specs.declared.service.ServiceKey.TheVariants.{Net, Mark}
 use Rattle.lvs_types.specs.declared.service.Service.{Service}
@@ -21,7 +19,7 @@ use Rattle.lvs_types.specs.declared.reply.Reply.TheVariants as reply
 use Rattle.lvs_types.specs.declared.reply.DropCause.TheVariants as drops
 use Rattle.lvs_model.specs.State.{State}
 use Rattle.lvs_model.specs.Lists.{update_first, without}
-use Rattle.lvs_model.specs.Lookups.{find_service, has_service_key, servers_of, template_at, has_template_key, dest_at}
+use Rattle.lvs_model.specs.Lookups.{find_service, has_service_key, servers_of, template_at, has_template_key}
 use Rattle.lvs_model.specs.Counts.{candidates}
 use Rattle.lvs_model.specs.Pick.{pick}
 use Rattle.lvs_model.specs.Binding.{count_bound, template_tried, put_template}
@@ -63,8 +61,7 @@ new_entry s p service d template =
 -- the connection gets an entry, which counts at its server
 abbrev pub enter : State → Packet → Entry → Dest → Reply × State
 enter s p e d =
-    let entries = s.entries ++ e ∷ [] in
-    (
+    let entries = s.entries ++ e ∷ [] in (
       forwarded s p e.method e.daddr e.dport,
       record s {
         entries = entries;
@@ -125,12 +122,12 @@ picked s p service (Some choice) = pick_at s p service choice.1 (slice_get (serv
 abbrev pub schedule : State → Packet → Service → Reply × State
 schedule s p service =
     picked s p service (pick
-      service.scheduler
-      (candidates service.key s.dests s.entries)
-      (map (λ (d : Dest). d.spec.addr) (servers_of service.key s.dests))
-      service.cursor
-      p.head.src
-      p.head.dst)
+    service.scheduler
+    (candidates service.key s.dests s.entries)
+    (map (λ (d : Dest). d.spec.addr) (servers_of service.key s.dests))
+    service.cursor
+    p.head.src
+    p.head.dst)
 
 -- the template holds for so many seconds from now
 abbrev pub renewed : State → ℕ → Template → Template

@@ -1,5 +1,5 @@
 -- What a director shows of itself.
-use Rattle.std.specs.Prelude.{ℕ, List, [], ◌∷◌, ◌++◌, map, not}
+use Rattle.std.specs.Prelude.{List, ◌++◌, map, not}
 use Rattle.std.specs.List.{filter, flat_map}
 use Rattle.lvs_types.specs.declared.service.Service.{Service}
 use Rattle.lvs_types.specs.declared.dest.Dest.{Dest}
