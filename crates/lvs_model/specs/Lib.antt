@@ -10,6 +10,7 @@ pub mod LeastLoad
 pub mod AddressHash
 pub mod MorePicks
 pub mod ExampleServers
+pub mod ExampleItems
 pub mod Messages
 pub mod MessageReading
 pub mod SyncRules
