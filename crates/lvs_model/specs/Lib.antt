@@ -33,3 +33,5 @@ pub mod Learning
 pub mod Sending
 pub mod Step
 pub mod Snapshots
+pub mod Plans
+pub mod Books
