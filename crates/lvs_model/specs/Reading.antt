@@ -1,5 +1,5 @@
 -- Reading a packet (RFC 791, section 3.1; RFC 768; RFC 9293, section 3.1): the first cause that fits, or what the headers say.
-use Rattle.std.specs.Prelude.{ℕ, ◌+◌, ◌-◌, ◌*◌, ◌/◌, ◌%◌, Bool, false, not, ◌||◌, ◌==◌, List, length, take, drop, slice_index, if◌then◌else◌, nat_lt, Result, Ok, Err}
+use Rattle.std.specs.Prelude.{ℕ, ◌+◌, ◌-◌, ◌*◌, ◌/◌, ◌%◌, Bool, not, ◌&&◌, ◌||◌, ◌==◌, List, length, take, drop, slice_index, if◌then◌else◌, nat_lt, Result, Ok, Err}
 use Rattle.lvs_types.specs.declared.head.Head.{Head}
 use Rattle.lvs_types.specs.declared.head.Malformed.{Malformed}
 use Rattle.lvs_types.specs.declared.head.Malformed.TheVariants.{Short, Version, HeaderLength, TotalLength, HeaderSum, L4Short}
@@ -38,6 +38,14 @@ fragment_offset bytes = word_at bytes 6 % 8192
 abbrev pub is_fragment : List ℕ → Bool
 is_fragment bytes = more_fragments bytes || not (fragment_offset bytes == 0)
 
+-- an unfragmented packet of protocol 6, whose TCP header is read
+abbrev pub is_tcp : List ℕ → Bool
+is_tcp bytes = not (is_fragment bytes) && (code_of bytes == 6)
+
+-- an unfragmented packet of protocol 17, whose UDP header is read
+abbrev pub is_udp : List ℕ → Bool
+is_udp bytes = not (is_fragment bytes) && (code_of bytes == 17)
+
 -- the bytes after the IP header, in number
 abbrev pub payload_len : List ℕ → ℕ
 payload_len bytes = total_of bytes - header_len_of bytes
@@ -45,6 +53,14 @@ payload_len bytes = total_of bytes - header_len_of bytes
 -- the length of the TCP header in bytes: four times the data offset (RFC 9293, section 3.1)
 abbrev pub data_offset : List ℕ → ℕ
 data_offset bytes = 4 * (slice_index bytes (header_len_of bytes + 12) / 16)
+
+-- a control bit of the TCP header, by its value: FIN 1, SYN 2, RST 4, ACK 16 (RFC 9293, section 3.1)
+abbrev pub control_bit : ℕ → List ℕ → Bool
+control_bit value bytes = is_tcp bytes && (slice_index bytes (header_len_of bytes + 13) / value % 2 == 1)
+
+-- a port, which stands at this place after the IP header (RFC 768; RFC 9293, section 3.1); 0 where none is read
+abbrev pub port_at : ℕ → List ℕ → ℕ
+port_at place bytes = if is_tcp bytes || is_udp bytes then word_at bytes (header_len_of bytes + place) else 0
 
 -- the TCP header doesn't fit: fewer than 20 bytes, or a data offset below five words or past the end
 abbrev pub is_tcp_short : List ℕ → Bool
@@ -54,9 +70,9 @@ is_tcp_short bytes = nat_lt (payload_len bytes) 20 || nat_lt (data_offset bytes)
 abbrev pub is_udp_short : List ℕ → Bool
 is_udp_short bytes = nat_lt (payload_len bytes) 8
 
--- what the IP header says (RFC 791, section 3.1); the ports are 0 and the flags false until they are read
-abbrev pub ip_head : List ℕ → Head
-ip_head bytes = record {
+-- what the headers say
+abbrev pub head_of : List ℕ → Head
+head_of bytes = record {
   header_len = header_len_of bytes;
   total = total_of bytes;
   code = code_of bytes;
@@ -67,50 +83,13 @@ ip_head bytes = record {
   ttl = slice_index bytes 8;
   src = addr_at bytes 12;
   dst = addr_at bytes 16;
-  sport = 0;
-  dport = 0;
-  syn = false;
-  ack = false;
-  fin = false;
-  rst = false;
-}
-
--- the same with the ports of a TCP or UDP header (RFC 768; RFC 9293, section 3.1)
-abbrev pub head_with_ports : List ℕ → Head
-head_with_ports bytes = record (ip_head bytes) {
-  sport = word_at bytes (header_len_of bytes);
-  dport = word_at bytes (header_len_of bytes + 2)
-}
-
--- a control bit of a TCP header, by its value: FIN 1, SYN 2, RST 4, ACK 16 (RFC 9293, section 3.1)
-abbrev pub control_bit : ℕ → List ℕ → Bool
-control_bit value bytes = slice_index bytes (header_len_of bytes + 13) / value % 2 == 1
-
--- the same with the ports and the flags of a TCP header
-abbrev pub head_with_flags : List ℕ → Head
-head_with_flags bytes = record (head_with_ports bytes) {
+  sport = port_at 0 bytes;
+  dport = port_at 2 bytes;
   syn = control_bit 2 bytes;
   ack = control_bit 16 bytes;
   fin = control_bit 1 bytes;
-  rst = control_bit 4 bytes
+  rst = control_bit 4 bytes;
 }
-
-abbrev pub read_tcp : List ℕ → Result Head Malformed
-read_tcp bytes = if is_tcp_short bytes then Err L4Short else Ok (head_with_flags bytes)
-
-abbrev pub read_udp : List ℕ → Result Head Malformed
-read_udp bytes = if is_udp_short bytes then Err L4Short else Ok (head_with_ports bytes)
-
--- by the protocol's number: 6 is TCP and 17 UDP, and of others nothing after the IP header is read
-abbrev pub read_protocol : ℕ → List ℕ → Result Head Malformed
-read_protocol code bytes =
-    if code == 6 then read_tcp bytes
-    else (if code == 17 then read_udp bytes
-    else Ok (ip_head bytes))
-
--- the same of a packet whose IP header is right; of a fragment nothing after the IP header is read
-abbrev pub read_above : List ℕ → Result Head Malformed
-read_above bytes = if is_fragment bytes then Ok (ip_head bytes) else read_protocol (code_of bytes) bytes
 
 -- the reading of a packet: the causes in the order in which they are looked for (this project's profile)
 abbrev pub read : List ℕ → Result Head Malformed
@@ -120,7 +99,8 @@ read bytes =
     else (if nat_lt (header_len_of bytes) 20 || nat_lt (length bytes) (header_len_of bytes) then Err HeaderLength
     else (if nat_lt (total_of bytes) (header_len_of bytes) || nat_lt (length bytes) (total_of bytes) then Err TotalLength
     else (if not (is_valid_header (take (header_len_of bytes) bytes)) then Err HeaderSum
-    else read_above bytes))))
+    else (if (is_tcp bytes && is_tcp_short bytes) || (is_udp bytes && is_udp_short bytes) then Err L4Short
+    else Ok (head_of bytes))))))
 
 -- the packet itself: the bytes up to the total length
 abbrev pub whole_of : List ℕ → List ℕ
