@@ -1,6 +1,5 @@
 -- The servers of the worked examples of picks.
 use Rattle.std.specs.Prelude.{ℕ, true, false, Some, None}
-use Rattle.lvs_types.specs.declared.addr.DestId.{DestId}
 use Rattle.lvs_types.specs.declared.dest.Candidate.{Candidate}
 use Rattle.lvs_types.specs.declared.service.Cursor.{Cursor}
 
