@@ -1,0 +1,3 @@
+mod Skipping
+mod Appending
+mod OneByOne
