@@ -1,3 +1,4 @@
 mod Skipping
 mod Appending
 mod OneByOne
+mod Again

@@ -2,6 +2,7 @@
 #![tactic(auto)]
 
 mod fields;
+mod laws;
 mod new_record;
 mod old_record;
 mod options;
@@ -12,6 +13,7 @@ mod tests;
 mod version;
 mod writing;
 
+pub use laws::written_is_read_again;
 pub use reading::read_message;
 pub use refused::MessageRefused;
 pub use writing::write_message;
