@@ -14,3 +14,9 @@ pub mod MessageReading
 pub mod SyncRules
 pub mod Overload
 pub mod State
+pub mod Decimals
+pub mod Refusals
+pub mod AdminTables
+pub mod AdminWords
+pub mod AdminLines
+pub mod SysctlWords

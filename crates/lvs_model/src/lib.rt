@@ -1,4 +1,5 @@
 //! The definitions of the director, and laws about them.
 #![tactic(auto)]
 
+pub mod admin;
 pub mod worked_examples;
