@@ -10,7 +10,7 @@ use Rattle.lvs_model.specs.Reading.{read, data_offset, payload_len, head_of, ver
 use Rattle.lvs_model.specs.Rewriting.{has_ports, checksum_place}
 
 -- the tests in their order, and what is answered
-abbrev chain : Bool → Bool → Bool → Bool → Bool → Bool → Head → Result Head Malformed
+abbrev pub chain : Bool → Bool → Bool → Bool → Bool → Bool → Head → Result Head Malformed
 chain a b c d e f h = if a then Err Short else (if b then Err Version else (if c then Err HeaderLength else (if d then Err TotalLength else (if e then Err HeaderSum else (if f then Err L4Short else Ok h)))))
 
 -- no test of the chain failed
