@@ -12,5 +12,6 @@ pub mod MorePicks
 pub mod Messages
 pub mod MessageReading
 pub mod SyncRules
+pub mod MessageExamples
 pub mod Overload
 pub mod State

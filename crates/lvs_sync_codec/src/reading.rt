@@ -20,10 +20,15 @@ use lvs_types::{BadSync, Listed, Message, SyncItem};
 use std::alloc::Global;
 
 const NEW_HEADER: usize = 8;
+
 const NEW_COUNT: usize = 4;
+
 const NEW_VERSION: usize = 5;
+
 const NEW_SPARE: usize = 6;
+
 const OLD_HEADER: usize = 4;
+
 const OLD_COUNT: usize = 0;
 
 /// The sync id of either version.
@@ -62,7 +67,12 @@ fn read_new(alloc: Global, bytes: &[u8]) -> Result<Message, MessageRefused>
     if usize::from(word(bytes, SIZE)) != bytes.len() {
         return Err(MessageRefused::Bad(BadSync::Size));
     }
-    let items = read_records(alloc, Version::One, bytes[NEW_COUNT], rest_from(bytes, NEW_HEADER))?;
+    let items = read_records(
+        alloc,
+        Version::One,
+        bytes[NEW_COUNT],
+        rest_from(bytes, NEW_HEADER),
+    )?;
     Ok(Message {
         sync_id: bytes[SYNC_ID],
         items,
@@ -78,7 +88,12 @@ fn read_old(alloc: Global, bytes: &[u8]) -> Result<Message, MessageRefused>
     if usize::from(word(bytes, SIZE)) != bytes.len() {
         return Err(MessageRefused::Bad(BadSync::Size));
     }
-    let items = read_records(alloc, Version::Zero, bytes[OLD_COUNT], rest_from(bytes, OLD_HEADER))?;
+    let items = read_records(
+        alloc,
+        Version::Zero,
+        bytes[OLD_COUNT],
+        rest_from(bytes, OLD_HEADER),
+    )?;
     Ok(Message {
         sync_id: bytes[SYNC_ID],
         items,
