@@ -1,6 +1,5 @@
 -- What the worked examples of sync messages are about: a connection from 172.16.0.9:40000 to 10.0.0.1:80 on the server 192.168.0.1:8080, and the template of a mark service.
 use Rattle.std.specs.Prelude.{ℕ, List, [], ◌∷◌, Some, None}
-use Rattle.lvs_types.specs.declared.addr.TemplateId.{TemplateId}
 use Rattle.lvs_types.specs.declared.service.Proto.TheVariants.{Tcp}
 use Rattle.lvs_types.specs.declared.service.Method.TheVariants.{Masq, Direct}
 use Rattle.lvs_types.specs.declared.entry.Entry.{Entry}

@@ -10,7 +10,6 @@ use Rattle.lvs_types.specs.declared.sync.BadSync.TheVariants.{Short, Version, Si
 use Rattle.lvs_model.specs.Fields.{word_at, number_at, addr_at}
 
 infixl 10 ◌>>=◌
-
 -- go on with what was read, or keep the cause
 abbrev pub ◌>>=◌ : {A B : Type 0} → Result A BadSync → (A → Result B BadSync) → Result B BadSync
 (Ok x) >>= f = f x

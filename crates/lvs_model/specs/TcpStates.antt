@@ -1,10 +1,10 @@
 -- The state of a TCP connection after a packet, as a director that sees one or both sides of it keeps it (RFC 9293, section 3.3.2; the tables are those of Linux ipvs).
-use Rattle.std.specs.Prelude.{ℕ, Bool, List, [], ◌∷◌, Option, Some, None, slice_index_or, if◌then◌else◌}
+use Rattle.std.specs.Prelude.{List, [], ◌∷◌, Option, Some, None, slice_index_or, if◌then◌else◌}
 use Rattle.lvs_types.specs.declared.head.Head.{Head}
 use Rattle.lvs_types.specs.declared.entry.Direction.{Direction}
 use Rattle.lvs_types.specs.declared.entry.Direction.TheVariants.{Input, Output, InputOnly}
 use Rattle.lvs_types.specs.declared.entry.TcpState.{TcpState}
-use Rattle.lvs_types.specs.declared.entry.TcpState.TheVariants.{None0 as NO, Established as ES, SynSent as SS, SynRecv as SR, FinWait as FW, TimeWait as TW, Close as CL, CloseWait as CW, LastAck as LA, Listen as LI, SynAck as SA}
+use Rattle.lvs_types.specs.declared.entry.TcpState.TheVariants.{Established as ES, SynSent as SS, SynRecv as SR, FinWait as FW, TimeWait as TW, Close as CL, CloseWait as CW, LastAck as LA, Listen as LI}
 use Rattle.lvs_model.specs.Timeouts.{state_number}
 
 -- the flag of a packet that chooses a row

@@ -1,6 +1,7 @@
 //! The definitions of the director, and laws about them.
 #![tactic(auto)]
 
+pub mod admin;
 mod numbers;
 pub mod worked_examples;
 

@@ -159,14 +159,7 @@ fn long_messages(rt: HostRuntime) -> Result<(), Fail> {
         write_message(alloc, 1, 7, &[DIRECT; 40])?.as_slice().len(),
         1448
     );
-    assert_eq!(rt;
-        write_message(alloc, 1, 7, &[DIRECT; 1])?.as_slice().len(),
-        44
-    );
-    assert_eq!(rt;
-        write_message(alloc, 0, 7, &[DIRECT; 40])?.as_slice().len(),
-        964
-    );
+    assert_eq!(rt; write_message(alloc, 1, 7, &[DIRECT])?.as_slice().len(), 44);
     Ok(())
 }
 

@@ -1,16 +1,11 @@
 //! Worked examples of sync messages, of what is sent, and of what becomes of a record that arrives.
-ghost use Rattle.std.specs.Prelude.{◌≡◌, List, ℕ, [], ◌∷◌, None, Some, Ok, Err, true, false};
-ghost use Rattle.lvs_types.specs.declared.addr.Addr.{Addr};
-ghost use Rattle.lvs_types.specs.declared.sync.SyncRecord.{SyncRecord};
-ghost use Rattle.lvs_types.specs.declared.sync.SyncItem.{SyncItem};
+ghost use Rattle.std.specs.Prelude.{◌≡◌, [], ◌∷◌, None, Some, Ok, Err, true, false};
 ghost use Rattle.lvs_types.specs.declared.sync.SyncItem.TheVariants.{V4, V6};
 ghost use Rattle.lvs_types.specs.declared.sync.BadSync.TheVariants.{Short, Version, Size, RecordShort, RecordVersion, Count};
 ghost use Rattle.lvs_types.specs.declared.sync.Learnt.TheVariants as learnt;
 ghost use Rattle.lvs_types.specs.declared.service.Proto.TheVariants as proto;
 ghost use Rattle.lvs_types.specs.declared.service.Method.TheVariants as method;
-ghost use Rattle.lvs_types.specs.declared.entry.Entry.{Entry};
 ghost use Rattle.lvs_types.specs.declared.entry.TcpState.TheVariants as state;
-ghost use Rattle.lvs_types.specs.declared.template.Template.{Template};
 ghost use Rattle.lvs_types.specs.Settings.{default_settings};
 ghost use Rattle.lvs_model.specs.Messages.{written};
 ghost use Rattle.lvs_model.specs.MessageReading.{read_sync, message_with, are_options};
@@ -22,8 +17,7 @@ ghost use Rattle.lvs_model.specs.MessageExamples.{connection, version_1, version
 pub fn written_messages()
     ensures in_version_1 { written 1 7 (connection ∷ []) ≡ version_1 }
     ensures in_version_0 { written 0 7 (connection ∷ []) ≡ version_0 }
-{
-}
+{}
 
 /// The same messages, read.
 pub fn read_messages()
@@ -33,8 +27,7 @@ pub fn read_messages()
     ensures of_ipv6 { read_sync (0 ∷ 7 ∷ 0 ∷ 12 ∷ 1 ∷ 1 ∷ 0 ∷ 0 ∷ 1 ∷ 6 ∷ 0 ∷ 4 ∷ []) ≡ Ok (message_with 7 (V6 ∷ [])) }
     ensures without_padding { read_sync (0 ∷ 7 ∷ 0 ∷ 13 ∷ 1 ∷ 1 ∷ 0 ∷ 0 ∷ 1 ∷ 6 ∷ 0 ∷ 5 ∷ 9 ∷ []) ≡ Ok (message_with 7 (V6 ∷ [])) }
     ensures with_padding { read_sync (0 ∷ 7 ∷ 0 ∷ 16 ∷ 1 ∷ 1 ∷ 0 ∷ 0 ∷ 1 ∷ 6 ∷ 0 ∷ 5 ∷ 9 ∷ 9 ∷ 9 ∷ 9 ∷ []) ≡ Ok (message_with 7 (V6 ∷ [])) }
-{
-}
+{}
 
 /// Bytes that are no message, with the first cause.
 pub fn refused_messages()
@@ -51,8 +44,7 @@ pub fn refused_messages()
     ensures a_short_header_of_version_0 { read_sync (1 ∷ 7 ∷ 0 ∷ []) ≡ Err Short }
     ensures a_record_missing_of_version_0 { read_sync (1 ∷ 7 ∷ 0 ∷ 4 ∷ []) ≡ Err Count }
     ensures a_record_cut_of_version_0 { read_sync (1 ∷ 7 ∷ 0 ∷ 5 ∷ 0 ∷ []) ≡ Err RecordShort }
-{
-}
+{}
 
 /// Options: a type, a length and so many bytes, each.
 pub fn options_of_records()
@@ -61,8 +53,7 @@ pub fn options_of_records()
     ensures no_length { are_options 0 (1 ∷ 1 ∷ 9 ∷ 2 ∷ []) ≡ false }
     ensures a_length_of_0 { are_options 0 (1 ∷ 0 ∷ []) ≡ false }
     ensures past_the_end { are_options 0 (1 ∷ 2 ∷ 9 ∷ []) ≡ false }
-{
-}
+{}
 
 /// What is sent of an entry and of a template.
 pub fn sent_records()
@@ -72,8 +63,7 @@ pub fn sent_records()
     ensures of_a_mark { of_template template ≡ template_record }
     ensures is_template { is_template_record template_record ≡ true }
     ensures is_connection { is_template_record connection ≡ false }
-{
-}
+{}
 
 /// With the threshold 3 and the period 50, an established connection is due at its packets 3, 53,
 /// 103 and so on, and whenever its state changes to one that is sent.
@@ -85,8 +75,7 @@ pub fn due_connections()
     ensures without_a_period { due_for_sync (record default_settings { period = 0 }) (Some state.Established) (record entry { packets = 53 }) ≡ false }
     ensures not_opening { due_for_sync default_settings (Some state.None0) (record entry { state = Some state.SynRecv }) ≡ false }
     ensures not_udp { due_for_sync default_settings None (record entry { key = record entry.key { proto = proto.Udp }; state = None; packets = 3 }) ≡ false }
-{
-}
+{}
 
 /// What becomes of records, in the order of the answers.
 pub fn learnt_records()
@@ -99,5 +88,4 @@ pub fn learnt_records()
     ensures accepted { accept (Some 7) 7 (V4 connection) ≡ learnt.Accepted }
     ensures any_id { accept (Some 0) 8 (V4 connection) ≡ learnt.Accepted }
     ensures of_a_mark { accept (Some 7) 7 (V4 template_record) ≡ learnt.Accepted }
-{
-}
+{}
