@@ -9,6 +9,8 @@ mod refused;
 mod splitting;
 mod sysctl;
 mod tables;
+#[cfg(test)]
+mod tests;
 mod values;
 mod words;
 

@@ -5,11 +5,13 @@ ghost use Rattle.lvs_model.specs.Refusals.{needed, forbidden};
 ghost use Rattle.lvs_model.specs.AdminWords.{is_tcp};
 ghost use Rattle.lvs_model.specs.AdminLines.{is_settled, settled, checked_mask, checked_one_packet, is_portless, checked_port, service_of, read_service, service_port, server_port, server_of, read_server, server_removed, daemon_started, daemon_stopped, listing_of, line_read};
 
+use crate::refused::bad;
 use lvs_model::admin::{
     Awaited, BadWord, CommandName, DaemonRole, Endpoint, GivenService, OptionName, WordsRead,
 };
 use lvs_types::{
-    Command, Cursor, DestSpec, Line, Method, Proto, Scheduler, Service, ServiceKey, Shown, WordsCause,
+    Command, Cursor, DestSpec, Line, Method, Proto, Scheduler, Service, ServiceKey, Shown,
+    WordsCause,
 };
 
 /// Whether no further word must come.
@@ -29,10 +31,7 @@ pub(crate) fn settle(count: usize, read: &WordsRead) -> Result<(), BadWord>
     if is_settled(read.awaited) {
         Ok(())
     } else {
-        Err(BadWord {
-            at: count,
-            cause: WordsCause::Missing,
-        })
+        Err(bad(count, WordsCause::Missing))
     }
 }
 
@@ -42,10 +41,7 @@ fn forbid(option_at: Option<usize>) -> Result<(), BadWord>
 {
     match option_at {
         None => Ok(()),
-        Some(at) => Err(BadWord {
-            at,
-            cause: WordsCause::Conflict,
-        }),
+        Some(at) => Err(bad(at, WordsCause::Conflict)),
     }
 }
 
@@ -64,8 +60,14 @@ fn is_tcp(key: ServiceKey) -> bool
     ensures { result ≡ is_tcp key }
 {
     match key {
-        ServiceKey::Net { proto: Proto::Tcp, .. } => true,
-        ServiceKey::Net { proto: Proto::Udp, .. } => false,
+        ServiceKey::Net {
+            proto: Proto::Tcp,
+            ..
+        } => true,
+        ServiceKey::Net {
+            proto: Proto::Udp,
+            ..
+        } => false,
         ServiceKey::Mark(_) => false,
     }
 }
@@ -95,10 +97,7 @@ fn check_port(service: &GivenService, read: &WordsRead) -> Result<(), BadWord>
     ensures { result ≡ checked_port service.now read.now }
 {
     if is_portless(service.key) && !read.persist.is_some() {
-        Err(BadWord {
-            at: service.at,
-            cause: WordsCause::ZeroPort,
-        })
+        Err(bad(service.at, WordsCause::ZeroPort))
     } else {
         Ok(())
     }
@@ -122,30 +121,21 @@ fn service_of(key: ServiceKey, read: &WordsRead) -> Service
 fn need_service(count: usize, read: &WordsRead) -> Result<GivenService, BadWord>
     ensures { result ≡ needed count cause.Missing read.now.service }
 {
-    read.service.ok_or(BadWord {
-        at: count,
-        cause: WordsCause::Missing,
-    })
+    read.service.ok_or(bad(count, WordsCause::Missing))
 }
 
 /// The value of `-r`, where one is required.
 fn need_server(count: usize, read: &WordsRead) -> Result<Endpoint, BadWord>
     ensures { result ≡ needed count cause.Missing read.now.server }
 {
-    read.server.ok_or(BadWord {
-        at: count,
-        cause: WordsCause::Missing,
-    })
+    read.server.ok_or(bad(count, WordsCause::Missing))
 }
 
 /// The sync daemon that a command speaks of.
 fn need_role(count: usize, read: &WordsRead) -> Result<DaemonRole, BadWord>
     ensures { result ≡ needed count cause.Missing read.now.role }
 {
-    read.role.ok_or(BadWord {
-        at: count,
-        cause: WordsCause::Missing,
-    })
+    read.role.ok_or(bad(count, WordsCause::Missing))
 }
 
 fn read_service(count: usize, read: &WordsRead) -> Result<Service, BadWord>

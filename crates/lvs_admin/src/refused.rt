@@ -2,6 +2,7 @@
 ghost use Rattle.std.specs.Prelude.{◌≡◌};
 ghost use Rattle.lvs_admin.specs.declared.refused.WordsRefused.TheVariants as refusal;
 
+use lvs_model::admin::BadWord;
 use lvs_types::{NoMemory, WordsCause};
 use thiserror::Error;
 
@@ -22,4 +23,11 @@ impl From<NoMemory> for WordsRefused {
     fn from(_: NoMemory) -> WordsRefused {
         WordsRefused::NoMemory
     }
+}
+
+/// A refused word.
+pub(crate) fn bad(at: usize, cause: WordsCause) -> BadWord
+    ensures { result ≡ record { at = at; cause = cause } }
+{
+    BadWord { at, cause }
 }

@@ -10,7 +10,7 @@ ghost use Rattle.lvs_admin.specs.Answers.{read_or_refused};
 
 use crate::line::{line_of, settle};
 use crate::reader::Reader;
-use crate::refused::WordsRefused;
+use crate::refused::{WordsRefused, bad};
 use crate::splitting::{Word, split_words};
 use crate::tables::command_of;
 use lvs_model::admin::{BadWord, CommandName, WordsRead};
@@ -21,10 +21,7 @@ use std::alloc::Global;
 fn read_command(word: &[u8]) -> Result<CommandName, BadWord>
     ensures { result ≡ needed 0 cause.UnknownOption (command_of word.now) }
 {
-    command_of(word).ok_or(BadWord {
-        at: 0,
-        cause: WordsCause::UnknownOption,
-    })
+    command_of(word).ok_or(bad(0, WordsCause::UnknownOption))
 }
 
 /// The words after the command, from left to right; the first that is refused counts.
@@ -42,10 +39,7 @@ fn read_all(words: &[Word]) -> Result<WordsRead, BadWord>
     ensures { result ≡ take_all words.now }
 {
     match words {
-        [] => Err(BadWord {
-            at: 0,
-            cause: WordsCause::Missing,
-        }),
+        [] => Err(bad(0, WordsCause::Missing)),
         [first, rest @ ..] => {
             let mut reader = Reader::new(read_command(first.as_bytes())?);
             read_options(&mut reader, rest)?;
@@ -73,22 +67,11 @@ pub fn read_word_slices(alloc: Global, words: &[&[u8]]) -> Result<Line, WordsRef
     let split = split_words(alloc, words)?;
     match read_split(&split) {
         Ok(line) => Ok(line),
-        Err(bad) => Err(WordsRefused::Refused {
-            at: bad.at,
-            cause: bad.cause,
+        Err(word) => Err(WordsRefused::Refused {
+            at: word.at,
+            cause: word.cause,
         }),
     }
-}
-
-/// What a list of words means: the line, or the first refused word with its number, from 0 after
-/// the splitting of `-ab` and `--name=value` (ipvsadm(8); the order of the refusals is this
-/// project's profile).
-pub fn read_words(alloc: Global, words: &[String]) -> Result<Line, WordsRefused>
-    ensures accepted { IfOk result (λ line. line_of_words (map string_bytes words.now) ≡ Ok line) }
-    ensures refused { (at : ℕ) (cause : WordsCause) → result ≡ Err (WordsRefused.Refused at cause) → line_of_words (map string_bytes words.now) ≡ Err (record { at = at; cause = cause }) }
-{
-    let slices = slices_of(alloc, words)?;
-    read_word_slices(alloc, &slices)
 }
 
 /// The bytes of each word.
@@ -100,4 +83,15 @@ fn slices_of(alloc: Global, words: &[String]) -> Result<Vec<&[u8]>, NoMemory>
         slices.push(word.as_bytes())?;
     }
     Ok(slices)
+}
+
+/// What a list of words means: the line, or the first refused word with its number, from 0 after
+/// the splitting of `-ab` and `--name=value` (ipvsadm(8); the order of the refusals is this
+/// project's profile).
+pub fn read_words(alloc: Global, words: &[String]) -> Result<Line, WordsRefused>
+    ensures accepted { IfOk result (λ line. line_of_words (map string_bytes words.now) ≡ Ok line) }
+    ensures refused { (at : ℕ) (cause : WordsCause) → result ≡ Err (WordsRefused.Refused at cause) → line_of_words (map string_bytes words.now) ≡ Err (record { at = at; cause = cause }) }
+{
+    let slices = slices_of(alloc, words)?;
+    read_word_slices(alloc, &slices)
 }

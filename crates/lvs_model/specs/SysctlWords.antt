@@ -11,12 +11,12 @@ use Rattle.lvs_model.specs.Refusals.{◌>>=◌}
 
 -- the names of the sysctls
 abbrev pub sysctl_name : SysctlName → List ℕ
-sysctl_name sysctl.ExpireNodest    = codes "expire_nodest_conn"
+sysctl_name sysctl.ExpireNodest = codes "expire_nodest_conn"
 sysctl_name sysctl.ExpireQuiescent = codes "expire_quiescent_template"
-sysctl_name sysctl.SloppyTcp       = codes "sloppy_tcp"
-sysctl_name sysctl.ReuseMode       = codes "conn_reuse_mode"
-sysctl_name sysctl.SyncThreshold   = codes "sync_threshold"
-sysctl_name sysctl.SyncVersion     = codes "sync_version"
+sysctl_name sysctl.SloppyTcp = codes "sloppy_tcp"
+sysctl_name sysctl.ReuseMode = codes "conn_reuse_mode"
+sysctl_name sysctl.SyncThreshold = codes "sync_threshold"
+sysctl_name sysctl.SyncVersion = codes "sync_version"
 
 -- all sysctls
 abbrev pub sysctls : List SysctlName
