@@ -7,3 +7,4 @@ pub mod picks;
 pub mod reading;
 pub mod rewriting;
 pub mod states;
+pub mod words;
