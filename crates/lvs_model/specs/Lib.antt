@@ -14,3 +14,4 @@ pub mod MessageReading
 pub mod SyncRules
 pub mod Overload
 pub mod State
+pub mod Report

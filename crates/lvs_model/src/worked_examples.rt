@@ -4,5 +4,6 @@ pub mod messages;
 pub mod numbers;
 pub mod picks;
 pub mod reading;
+pub mod report;
 pub mod rewriting;
 pub mod states;
