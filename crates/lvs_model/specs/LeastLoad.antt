@@ -1,8 +1,16 @@
 -- Which server has the least load (lc, wlc, sed and nq of ipvsadm(8); the loads and the ties are this project's profile).
-use Rattle.std.specs.Prelude.{ℕ, zero, suc, ◌+◌, ◌*◌, Bool, not, ◌&&◌, ◌==◌, nat_lt, List, [], ◌∷◌, Option, Some, None}
+use Rattle.std.specs.Prelude.{◌≡◌, ℕ, zero, suc, ◌+◌, ◌*◌, Bool, false, not, ◌&&◌, ◌==◌, nat_lt, List, [], ◌∷◌, Option, Some, None}
 use Rattle.std.specs.Option.{option_or}
 use Rattle.std.specs.List.{list_any, position}
 use Rattle.lvs_types.specs.declared.dest.Candidate.{Candidate}
+
+-- an eligible candidate of weight 0
+abbrev pub is_weightless : Candidate → Bool
+is_weightless c = c.eligible && (c.weight == 0)
+
+-- no eligible candidate has weight 0
+abbrev pub AreWeighed : List Candidate → Type 0
+AreWeighed cs = list_any is_weightless cs ≡ false
 
 -- the load of a server: an active connection weighs as much as 256 inactive ones
 abbrev pub load : Candidate → ℕ

@@ -36,3 +36,9 @@ pub mod Step
 pub mod Snapshots
 pub mod Plans
 pub mod Books
+pub mod Decimals
+pub mod Refusals
+pub mod AdminTables
+pub mod AdminWords
+pub mod AdminLines
+pub mod SysctlWords

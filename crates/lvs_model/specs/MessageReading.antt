@@ -1,5 +1,5 @@
 -- Reading a sync message, with the first cause for which bytes are none (version 1: the layout of Linux IPVS; version 0, the causes and their order: this project's profile).
-use Rattle.std.specs.Prelude.{ℕ, zero, suc, ◌/◌, ◌%◌, Bool, true, false, not, ◌&&◌, ◌||◌, ◌==◌, nat_lt, List, [], ◌∷◌, length, take, drop, slice_index, Result, Ok, Err, if◌then◌else◌, bit_and}
+use Rattle.std.specs.Prelude.{ℕ, zero, suc, ◌/◌, ◌%◌, Bool, true, false, not, ◌&&◌, ◌||◌, ◌==◌, nat_lt, List, [], ◌∷◌, length, drop, slice_index, slice_range, Result, Ok, Err, if◌then◌else◌, bit_and}
 use Rattle.std.specs.Int.{next_multiple_of}
 use Rattle.lvs_types.specs.declared.sync.SyncRecord.{SyncRecord}
 use Rattle.lvs_types.specs.declared.sync.SyncItem.{SyncItem}
@@ -32,7 +32,8 @@ records_by read (suc count) bytes = do
 abbrev pub are_options : ℕ → List ℕ → Bool
 are_options zero [] = true
 are_options zero (kind ∷ []) = false
-are_options zero (kind ∷ size ∷ rest) = not (size == 0) && are_options size rest
+are_options zero (kind ∷ zero ∷ rest) = false
+are_options zero (kind ∷ suc size ∷ rest) = are_options (suc size) rest
 are_options (suc skipped) [] = false
 are_options (suc skipped) (byte ∷ rest) = are_options skipped rest
 
@@ -74,14 +75,13 @@ item_of bytes = if is_v6 bytes then V6 else V4 (record_of bytes)
 
 -- a record of version 1; the bytes after it begin behind its padding, at the next multiple of 4, and the padding may be cut off where the message ends
 abbrev pub read_record : List ℕ → RecordRead
-read_record [] = Err Count
-read_record (byte ∷ bytes) =
-    let all : List ℕ = byte ∷ bytes in
-    if nat_lt (length all) 4 then Err RecordShort
-    else (if not (record_version all == 0) then Err RecordVersion
-    else (if nat_lt (length all) (record_size all) || nat_lt (record_size all) (least_size all) then Err RecordShort
-    else (if not (is_v6 all) && not (are_options 0 (drop 36 (take (record_size all) all))) then Err Options
-    else Ok (item_of all, drop (next_multiple_of (record_size all) 4) all))))
+read_record bytes =
+    if length bytes == 0 then Err Count
+    else (if nat_lt (length bytes) 4 then Err RecordShort
+    else (if not (record_version bytes == 0) then Err RecordVersion
+    else (if nat_lt (length bytes) (record_size bytes) || nat_lt (record_size bytes) (least_size bytes) then Err RecordShort
+    else (if not (is_v6 bytes) && not (are_options 0 (slice_range bytes 36 (record_size bytes))) then Err Options
+    else Ok (item_of bytes, drop (next_multiple_of (record_size bytes) 4) bytes)))))
 
 -- the fields of a record of version 0, which has no mark and no timeout
 abbrev pub old_record_of : List ℕ → SyncRecord
@@ -105,12 +105,10 @@ old_record_size bytes = if bit_and (word_at bytes 20) 0x600 == 0 then 24 else 48
 
 -- a record of version 0
 abbrev pub read_old_record : List ℕ → RecordRead
-read_old_record [] = Err Count
-read_old_record (byte ∷ bytes) =
-    let all : List ℕ = byte ∷ bytes in
-    if nat_lt (length all) 24 then Err RecordShort
-    else (if nat_lt (length all) (old_record_size all) then Err RecordShort
-    else Ok (V4 (old_record_of all), drop (old_record_size all) all))
+read_old_record bytes =
+    if length bytes == 0 then Err Count
+    else (if nat_lt (length bytes) 24 || nat_lt (length bytes) (old_record_size bytes) then Err RecordShort
+    else Ok (V4 (old_record_of bytes), drop (old_record_size bytes) bytes))
 
 abbrev pub message_with : ℕ → List SyncItem → Message
 message_with id items = record { sync_id = id; items = items }
@@ -136,5 +134,7 @@ read_old_message bytes =
 
 -- the message that bytes are, or the first cause for which they are none; a first byte of 0 tells version 1 from version 0
 abbrev pub read_sync : List ℕ → Result Message BadSync
-read_sync [] = Err Short
-read_sync (first ∷ rest) = if first == 0 then read_new_message (first ∷ rest) else read_old_message (first ∷ rest)
+read_sync bytes =
+    if length bytes == 0 then Err Short
+    else (if slice_index bytes 0 == 0 then read_new_message bytes
+    else read_old_message bytes)

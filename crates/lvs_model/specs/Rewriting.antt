@@ -1,11 +1,15 @@
 -- Rewritten bytes of a forwarded packet: masquerade (RFC 1624) and the tunnel's outer header (RFC 2003).
-use Rattle.std.specs.Prelude.{ℕ, ◌+◌, Bool, true, false, ◌==◌, nat_lt, List, ◌∷◌, ◌++◌, take, drop, if◌then◌else◌}
+use Rattle.std.specs.Prelude.{ℕ, ◌+◌, Bool, true, false, not, ◌&&◌, ◌||◌, ◌==◌, nat_lt, List, [], ◌∷◌, ◌++◌, take, drop, if◌then◌else◌}
 use Rattle.lvs_types.specs.declared.addr.Addr.{Addr}
 use Rattle.lvs_types.specs.declared.head.Head.{Head}
 use Rattle.lvs_types.specs.declared.service.Method.{Method}
 use Rattle.lvs_types.specs.declared.service.Method.TheVariants.{Masq, Tunnel, Direct}
 use Rattle.lvs_sum.specs.Sums.{complement, fold, update16, update32}
 use Rattle.lvs_model.specs.Fields.{word_at, word_bytes, number_bytes, addr_bytes}
+
+-- an unfragmented TCP or UDP packet, which masquerade can rewrite (RFC 9293; RFC 768)
+abbrev pub has_ports : Head → Bool
+has_ports head = not head.fragment && (head.code == 6 || head.code == 17)
 
 -- the bytes with a number below 2 ^ 16 put at a place, all other bytes staying
 abbrev pub with_word : ℕ → ℕ → List ℕ → List ℕ

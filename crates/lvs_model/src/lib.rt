@@ -2,6 +2,7 @@
 #![tactic(auto)]
 
 mod numbers;
+pub mod admin;
 pub mod worked_examples;
 
 pub use numbers::{bucket_of, mix, worker_of};

@@ -1,0 +1,29 @@
+//! How many slots a server takes in a round.
+ghost use Rattle.std.specs.Prelude.{◌≡◌, ℕ, ◌<◌, ◌≤◌, length, sum_by, slice_index_or};
+ghost use Rattle.lvs_types.specs.declared.dest.Candidate.{Candidate};
+ghost use Rattle.lvs_model.specs.MorePicks.{turns};
+
+use lvs_types::Candidate;
+
+/// The sum of the weights.
+pub(crate) fn total_weight(servers: &[Candidate]) -> u128
+    ensures { result ≡ sum_by (λ (server : Candidate). server.weight) servers.now }
+{
+    let mut total = 0;
+    for server in servers {
+        total += u128::from(server.weight);
+    }
+    total
+}
+
+/// How many slots a server takes in a round, where the weights add up to `total`: 64 in proportion to
+/// its weight, at least one; none without a weight (this project's profile).
+pub(crate) fn turns(server: &Candidate, total: u128) -> u128
+    requires { server.now.weight ≤ total }
+    ensures { result ≡ turns total server.now }
+{
+    match server.weight {
+        0 => 0,
+        weight => (64 * u128::from(weight) / total).max(1),
+    }
+}

@@ -1,0 +1,20 @@
+use Rattle.std.proofs.Common.{◌≡◌, drop, Some, None, sym, ◌∙◌, ap}
+use Rattle.std.specs.List.{position}
+use Rattle.lvs_types.specs.declared.dest.Candidate.{Candidate}
+use Rattle.lvs_sched_turn.proofs.Turns.{found_first, found_then}
+use Rattle.lvs_sched_turn.proofs.round_robin.next_place.Goals as goal
+
+pub returns-in-Some : goal.returns-in-Some
+returns-in-Some c =
+    let found : position (λ (x : Candidate). x.eligible) (drop c.place_after-start.result c.args.servers.now) ≡ Some c.in-Some.further =
+    sym (ap (position (λ (x : Candidate). x.eligible)) c.split_at.ensures.back) ∙ sym c.first_eligible.ensures ∙ c.in-Some.is
+    in
+    found_first _ c.args.servers.now c.place_after-start.result c.in-Some.further _ _ c.place_after-start.ensures.after found
+
+pub returns-in-None : goal.returns-in-None
+returns-in-None c =
+    let none : position (λ (x : Candidate). x.eligible) (drop c.place_after-start.result c.args.servers.now) ≡ None =
+    sym (ap (position (λ (x : Candidate). x.eligible)) c.split_at.ensures.back) ∙ sym c.first_eligible.ensures ∙ c.in-None.is
+    in
+    found_then (λ (x : Candidate). x.eligible) c.args.servers.now c.place_after-start.result _ _ _ c.place_after-start.ensures.after c.place_after-start.ensures.through none
+    (sym (ap (position (λ (x : Candidate). x.eligible)) c.split_at.ensures.front) ∙ sym c.first_eligible-in-None.ensures)
