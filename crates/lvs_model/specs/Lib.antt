@@ -17,6 +17,7 @@ pub mod SyncRules
 pub mod MessageExamples
 pub mod Overload
 pub mod State
+pub mod Report
 pub mod Lists
 pub mod Lookups
 pub mod Counts
