@@ -1,18 +1,19 @@
 //! A packet that was read, with the parts of the bytes that it was read from.
-ghost use Rattle.std.specs.Prelude.{◌≡◌, ◌≤◌, length, MatchResult, IfOk, Ok, Err};
-ghost use Rattle.lvs_model.specs.Reading.{read, read_above as spec_read_above, header_len_of, total_of, whole_of, payload_of};
+ghost use Rattle.std.specs.Prelude.{◌≡◌, ◌≤◌, length, take, drop, MatchResult, IfOk, Ok, Err};
+ghost use Rattle.lvs_headers.specs.Rest.{read_rest};
+ghost use Rattle.lvs_model.specs.Reading.{read, header_len_of, total_of, whole_of, payload_of};
 
+use crate::fields::{header_len, total};
+use crate::heads::read_transport;
 use lvs_sum::fold;
 use lvs_types::{Head, Malformed};
 use std::marker::Model;
-
-use crate::fields::{header_len, total};
-use crate::heads::read_above;
 
 /// The shortest IP header, in bytes.
 const IP_HEADER: u16 = 20;
 
 /// A packet that was read: what its headers say, and parts of the bytes that it was read from.
+#[derive(Debug, Drop)]
 pub struct Packet<'a> {
     head: Head,
     whole: &'a [u8],
@@ -52,7 +53,7 @@ impl<'a> Packet<'a> {
 
 /// Whether the IP header is right, else the first cause: Short, Version, HeaderLength, TotalLength, HeaderSum.
 fn check_header(bytes: &[u8]) -> Result<(), Malformed>
-    ensures reading { MatchResult result (λ _. read bytes.now ≡ spec_read_above bytes.now) (λ e. read bytes.now ≡ Err e) }
+    ensures reading { MatchResult result (λ _. read bytes.now ≡ read_rest bytes.now) (λ e. read bytes.now ≡ Err e) }
     ensures long { IfOk result (λ _. 20 ≤ length bytes.now) }
     ensures header { IfOk result (λ _. header_len_of bytes.now ≤ total_of bytes.now) }
     ensures whole { IfOk result (λ _. total_of bytes.now ≤ length bytes.now) }
@@ -86,9 +87,13 @@ pub fn read_packet(bytes: &[u8]) -> Result<Packet<'_>, Malformed>
     ensures reading { MatchResult result (λ p. read bytes.now ≡ Ok p.head) (λ e. read bytes.now ≡ Err e) }
     ensures whole { IfOk result (λ p. p.whole ≡ whole_of bytes.now) }
     ensures payload { IfOk result (λ p. p.payload ≡ payload_of bytes.now) }
+    ensures after { IfOk result (λ p. p.payload ≡ drop p.head.header_len p.whole) }
+    ensures cut { IfOk result (λ p. p.whole ≡ take p.head.total bytes.now) }
+    ensures total { IfOk result (λ p. length p.whole ≡ p.head.total) }
+    ensures again { IfOk result (λ p. read p.whole ≡ Ok p.head) }
 {
     check_header(bytes)?;
-    let head = read_above(bytes)?;
+    let head = read_transport(bytes)?;
     let whole = &bytes[..usize::from(total(bytes))];
     Ok(Packet {
         head,

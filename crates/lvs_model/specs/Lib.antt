@@ -14,8 +14,10 @@ pub mod ExampleItems
 pub mod Messages
 pub mod MessageReading
 pub mod SyncRules
+pub mod MessageExamples
 pub mod Overload
 pub mod State
+pub mod Report
 pub mod Lists
 pub mod Lookups
 pub mod Counts

@@ -5,5 +5,7 @@ pub mod messages;
 pub mod numbers;
 pub mod picks;
 pub mod reading;
+pub mod report;
 pub mod rewriting;
 pub mod states;
+pub mod words;

@@ -103,7 +103,7 @@ common_at g ns (suc n) is covers =
 pub common_is : (g : ℕ) (ns : List ℕ) → Covers g [] ns → g ≡ common_divisor ns
 common_is g ns covers = sym (common_at g ns (greatest ns) refl covers)
 
-weights_first : (b : Bool) (c : Candidate) (cs : List Candidate) → c.eligible ≡ b → eligible_weights (c ∷ cs) ≡ cond b (c.weight ∷ eligible_weights cs) (eligible_weights cs)
+pub weights_first : (b : Bool) (c : Candidate) (cs : List Candidate) → c.eligible ≡ b → eligible_weights (c ∷ cs) ≡ cond b (c.weight ∷ eligible_weights cs) (eligible_weights cs)
 weights_first true c cs is = ap (λ b. map (λ (x : Candidate). x.weight) (cond b (c ∷ filter (λ (x : Candidate). x.eligible) cs) (filter (λ (x : Candidate). x.eligible) cs))) is
 weights_first false c cs is = ap (λ b. map (λ (x : Candidate). x.weight) (cond b (c ∷ filter (λ (x : Candidate). x.eligible) cs) (filter (λ (x : Candidate). x.eligible) cs))) is
 
