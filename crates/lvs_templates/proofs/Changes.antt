@@ -107,8 +107,8 @@ store_replace row old es es' es2 ids ids' store there free differ rows' keys' so
       ordered = sorted2;
       tied = tied_same (row_put without_rows id (Some row)) (row_at es2) (id_put without_ids key (Some id)) (id_at ids')
           (λ q. rows2 q ∙ ap (cond (is_eq (nat_cmp old.0 q)) None) (rows' q)
-              ∙ swap (is_eq (nat_cmp old.0 q)) (is_eq (nat_cmp id q)) row (row_at es q)
-                  (λ tie other. number_apart id old.0 differ (nat_at_is id q other ∙ sym (nat_at_is old.0 q tie))))
+          ∙ swap (is_eq (nat_cmp old.0 q)) (is_eq (nat_cmp id q)) row (row_at es q)
+          (λ tie other. number_apart id old.0 differ (nat_at_is id q other ∙ sym (nat_at_is old.0 q tie))))
           (λ q. keys' q ∙ twice (key_same key q) id (id_at ids q))
           (tied_insert without_rows without_ids (tied_leave (row_at es) (id_at ids) store.tied key old.0 led) row (none_at (is_eq (nat_cmp old.0 id)) (row_at es id) new) (id_here (id_at ids) key None));
     }
@@ -129,7 +129,7 @@ pub rows_replaced : (row : TemplateRow) (old : TemplateId) (es es' es2 : List (�
 rows_replaced row old es es' es2 ids store there free differ is' sorted' rows' is2 =
     let new = moved_id row old es ids store there free differ in
     ap values_of is2 ∙ rows_replace row old es es' ids store (led_by row.template.key old es ids store there) new (flipped row.template.id.0 old.0 differ) is' sorted'
-        (λ id r e. put_ids row es ids store id r (is_eq (nat_cmp row.template.id.0 id)) refl (sym (rows' id) ∙ e))
+    (λ id r e. put_ids row es ids store id r (is_eq (nat_cmp row.template.id.0 id)) refl (sym (rows' id) ∙ e))
 
 -- ---- a row in the place of one of the same id and key
 
@@ -140,12 +140,12 @@ some_by (Some y) x e = refl
 over_at : (es : List (ℕ × TemplateRow)) (row old : TemplateRow) (q : ℕ) → row_at es row.template.id.0 ≡ Some old → row_at (set_value (is_at (nat_cmp row.template.id.0)) es row) q ≡ row_put (row_at es) row.template.id.0 (Some row) q
 over_at es row old q was =
     lookup-set_value (eq_by_cmp_equiv nat_cmp_total) (is_at (nat_cmp row.template.id.0))
-        (λ x y tie. ap (λ n. is_eq (nat_cmp n y)) (nat_at_is row.template.id.0 x tie)) q row es (some_by (row_at es row.template.id.0) old was)
+    (λ x y tie. ap (λ n. is_eq (nat_cmp n y)) (nat_at_is row.template.id.0 x tie)) q row es (some_by (row_at es row.template.id.0) old was)
 
 over_was : (row : TemplateRow) (es : List (ℕ × TemplateRow)) (ids : List (TemplateKey × ℕ)) → IsStore es ids → IsSomeAnd (find (has_id row.template.id) (values_of es)) (λ other. other.template.key ≡ row.template.key) → (old : TemplateRow) × (row_at es row.template.id.0 ≡ Some old) × (old.template.key ≡ row.template.key)
 over_was row es ids store there =
     there_is (row_at es row.template.id.0) (λ other. other.template.key ≡ row.template.key)
-        (subst (λ (o : Option TemplateRow). IsSomeAnd o (λ other. other.template.key ≡ row.template.key)) (sym (find_id row.template.id es ids store)) there)
+    (subst (λ (o : Option TemplateRow). IsSomeAnd o (λ other. other.template.key ≡ row.template.key)) (sym (find_id row.template.id es ids store)) there)
 
 pub store_over : (row : TemplateRow) (es es' : List (ℕ × TemplateRow)) (ids : List (TemplateKey × ℕ)) → IsStore es ids → IsSomeAnd (find (has_id row.template.id) (values_of es)) (λ other. other.template.key ≡ row.template.key)
     → es' ≡ set_value (is_at (nat_cmp row.template.id.0)) es row → IsStore es' ids

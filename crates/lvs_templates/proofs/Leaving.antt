@@ -34,11 +34,12 @@ apart_by ids a b i j true tie mine its less =
 apart_led : (ids : List (TemplateKey × ℕ)) (es : List (ℕ × TemplateRow)) → IsStrictlySortedBy nat_cmp (keys_of es) → AllByRecursion (λ (e : ℕ × TemplateRow). id_at ids e.1.template.key ≡ Some e.0) es → AreApart (values_of es)
 unfolding IsStrictlySortedBy
 apart_led ids [] sorted led = tt
-apart_led ids (e ∷ es) sorted led =
-    (all_values (λ (other : TemplateRow). template_key_eq e.1.template.key other.template.key ≡ false) es
-        (all_join (λ (o : ℕ × TemplateRow). id_at ids o.1.template.key ≡ Some o.0) (λ n. nat_cmp e.0 n ≡ Less) (λ (o : ℕ × TemplateRow). template_key_eq e.1.template.key o.1.template.key ≡ false)
-            (λ o its less. apart_by ids e.1 o.1 e.0 o.0 (template_key_eq e.1.template.key o.1.template.key) refl led.0 its less) es led.1 sorted.0),
-    apart_led ids es sorted.1 led.1)
+apart_led ids (e ∷ es) sorted led = (
+  all_values (λ (other : TemplateRow). template_key_eq e.1.template.key other.template.key ≡ false) es
+      (all_join (λ (o : ℕ × TemplateRow). id_at ids o.1.template.key ≡ Some o.0) (λ n. nat_cmp e.0 n ≡ Less) (λ (o : ℕ × TemplateRow). template_key_eq e.1.template.key o.1.template.key ≡ false)
+      (λ o its less. apart_by ids e.1 o.1 e.0 o.0 (template_key_eq e.1.template.key o.1.template.key) refl led.0 its less) es led.1 sorted.0),
+  apart_led ids es sorted.1 led.1,
+)
 
 pub are_apart : (es : List (ℕ × TemplateRow)) (ids : List (TemplateKey × ℕ)) → IsStore es ids → AreApart (values_of es)
 are_apart es ids store =
@@ -61,7 +62,7 @@ stays_first : (row : TemplateRow) (gone rows : List TemplateRow) → AllByRecurs
 stays_first row [] rows apart = refl
 stays_first row (other ∷ gone) rows apart =
     ap (λ b. without_all (templates_of gone) (cond (not b) (row ∷ without other.template.key rows) (without other.template.key rows)))
-        (key_flip row.template.key other.template.key (template_key_eq other.template.key row.template.key) refl apart.0)
+    (key_flip row.template.key other.template.key (template_key_eq other.template.key row.template.key) refl apart.0)
     ∙ stays_first row gone (without other.template.key rows) apart.1
 
 kept_here : (P : TemplateRow → Type 0) (row : TemplateRow) (rows : List TemplateRow) (b : Bool) → P row → AllByRecursion P rows → AllByRecursion P (cond b (row ∷ rows) rows)

@@ -111,7 +111,7 @@ no_key key es ids store nowhere =
 pub none_agree : (key : TemplateKey) (es : List (ℕ × TemplateRow)) (ids : List (TemplateKey × ℕ)) → IsStore es ids → id_at ids key ≡ None → AllByRecursion (λ (e : ℕ × TemplateRow). has_key key e.1 ≡ false) es
 none_agree key es ids store nowhere =
     all_weaken (λ (e : ℕ × TemplateRow). row_at es e.0 ≡ Some e.1) (λ (e : ℕ × TemplateRow). has_key key e.1 ≡ false)
-        (λ e found. missed_key key ids e.1 e.0 (has_key key e.1) refl nowhere (store.tied.rows e.0 e.1 found)) es (each_found es store.ordered)
+    (λ e found. missed_key key ids e.1 e.0 (has_key key e.1) refl nowhere (store.tied.rows e.0 e.1 found)) es (each_found es store.ordered)
 
 kept_whole : (key : TemplateKey) (es : List (ℕ × TemplateRow)) → AllByRecursion (λ (e : ℕ × TemplateRow). has_key key e.1 ≡ false) es → values_of es ≡ without key (values_of es)
 kept_whole key [] none = refl
@@ -212,9 +212,9 @@ module _ (q : TemplateRow → Bool) (row : TemplateRow) (keeps : q row ≡ true)
   filter_by : (other : TemplateRow) (rows : List TemplateRow) (b : Bool) → nat_lt row.template.id.0 other.template.id.0 ≡ b → AllByRecursion (λ n. nat_cmp other.template.id.0 n ≡ Less) (ids_of rows) → filter q (insert_row row rows) ≡ insert_row row (filter q rows) → filter q (insert_row row (other ∷ rows)) ≡ insert_row row (filter q (other ∷ rows))
   filter_by other rows true below above rest =
       let each : AllByRecursion (λ n. nat_lt row.template.id.0 n ≡ true) (ids_of (other ∷ rows)) =
-          (below, all_weaken (λ n. nat_cmp other.template.id.0 n ≡ Less) (λ n. nat_lt row.template.id.0 n ≡ true) (λ n less. lt_trans row.template.id.0 other.template.id.0 n below less) (ids_of rows) above) in
+      (below, all_weaken (λ n. nat_cmp other.template.id.0 n ≡ Less) (λ n. nat_lt row.template.id.0 n ≡ true) (λ n less. lt_trans row.template.id.0 other.template.id.0 n below less) (ids_of rows) above) in
       let first : insert_row row (filter q (other ∷ rows)) ≡ row ∷ filter q (other ∷ rows) =
-          insert_first row (filter q (other ∷ rows)) (all_filter (λ n. nat_lt row.template.id.0 n ≡ true) (λ (x : TemplateRow). x.template.id.0) q (other ∷ rows) each) in
+      insert_first row (filter q (other ∷ rows)) (all_filter (λ n. nat_lt row.template.id.0 n ≡ true) (λ (x : TemplateRow). x.template.id.0) q (other ∷ rows) each) in
       ap (filter q) (insert_first row (other ∷ rows) each) ∙ ap (λ b. cond b (row ∷ filter q (other ∷ rows)) (filter q (other ∷ rows))) keeps ∙ sym first
   filter_by other rows false below above rest =
       let step : insert_row row (other ∷ rows) ≡ other ∷ insert_row row rows = rw below refl in
@@ -232,15 +232,15 @@ pub rows_replace : (row : TemplateRow) (old : TemplateId) (es es' : List (ℕ ×
 rows_replace row old es es' ids store led free differ es'_is sorted' ids' =
     let own' = own_ids es' sorted' ids' in
     let agree' : Agree (has_id old) (is_at (nat_cmp old.0)) es' =
-        all_weaken (λ (e : ℕ × TemplateRow). e.1.template.id.0 ≡ e.0) (λ (e : ℕ × TemplateRow). has_id old e.1 ≡ is_at (nat_cmp old.0) e.0)
-            (λ e own. ap (λ n. old.0 == n) own ∙ sym (nat_at old.0 e.0)) es' own' in
+    all_weaken (λ (e : ℕ × TemplateRow). e.1.template.id.0 ≡ e.0) (λ (e : ℕ × TemplateRow). has_id old e.1 ≡ is_at (nat_cmp old.0) e.0)
+    (λ e own. ap (λ n. old.0 == n) own ∙ sym (nat_at old.0 e.0)) es' own' in
     let taken : filter (λ x. not (has_id old x)) (values_of es') ≡ values_of (remove_entry (is_at (nat_cmp old.0)) es') =
-        filter-values (has_id old) (is_at (nat_cmp old.0)) es' agree' (once_in_order old.0 (keys_of es') sorted') in
+    filter-values (has_id old) (is_at (nat_cmp old.0)) es' agree' (once_in_order old.0 (keys_of es') sorted') in
     let put : values_of es' ≡ insert_row row (values_of es) = ap values_of es'_is ∙ rows_insert row es ids store free in
     let keeps : not (has_id old row) ≡ true = ap not differ in
     let moved : filter (λ x. not (has_id old x)) (insert_row row (values_of es)) ≡ insert_row row (filter (λ x. not (has_id old x)) (values_of es)) =
-        filter_insert (λ x. not (has_id old x)) row keeps (values_of es) (rows_sorted es ids store) in
+    filter_insert (λ x. not (has_id old x)) row keeps (values_of es) (rows_sorted es ids store) in
     let same : filter (λ x. not (has_id old x)) (values_of es) ≡ without row.template.key (values_of es) =
-        filter-values (has_id old) (is_at (nat_cmp old.0)) es (agree_id old es ids store) (once_in_order old.0 (keys_of es) store.ordered)
-        ∙ sym (without_one row.template.key old.0 es ids store led) in
+    filter-values (has_id old) (is_at (nat_cmp old.0)) es (agree_id old es ids store) (once_in_order old.0 (keys_of es) store.ordered)
+    ∙ sym (without_one row.template.key old.0 es ids store led) in
     sym taken ∙ ap (filter (λ x. not (has_id old x))) put ∙ moved ∙ ap (insert_row row) same

@@ -5,6 +5,8 @@ mod due;
 mod maps;
 mod row;
 mod templates;
+#[cfg(test)]
+mod tests;
 
 pub use due::Due;
 pub use templates::Templates;

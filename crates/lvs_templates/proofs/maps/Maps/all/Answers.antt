@@ -8,4 +8,4 @@ use Rattle.lvs_templates.proofs.maps.Maps.all.Goals as goal
 pub returns : goal.returns
 returns c =
     rw c.in_ok-all.was at (items_from_collect c.collect.result c.collect.ensures.ran
-        (YieldsList-from_map _ (λ (row : TemplateRow). row.template) (YieldsList-at c.map.ensures.source (YieldsList-from_rest (rows_of c.args.self.now) c.values.ensures.rest)) c.map.ensures.closure (λ x r q k. search rules)))
+    (YieldsList-from_map _ (λ (row : TemplateRow). row.template) (YieldsList-at c.map.ensures.source (YieldsList-from_rest (rows_of c.args.self.now) c.values.ensures.rest)) c.map.ensures.closure (λ x r q k. search rules)))

@@ -19,7 +19,7 @@ pub returns-clause-whole : goal.returns-clause-whole
 returns-clause-whole c =
     let led : id_at c.args.self.now.ids.entries c.args.key.now ≡ Some c.in-Some.id = sym c.remove.ensures.value ∙ c.in-Some.is in
     store_leave c.args.key.now c.in-Some.id c.args.self.now.rows.entries c.remove-2.new.self.entries c.args.self.now.ids.entries c.remove.new.self.entries c.requires led
-        c.remove-2.ensures.ordered c.remove-2.ensures.updates.0 c.remove.ensures.updates.0
+    c.remove-2.ensures.ordered c.remove-2.ensures.updates.0 c.remove.ensures.updates.0
 
 pub returns-clause-row : goal.returns-clause-row
 returns-clause-row c =

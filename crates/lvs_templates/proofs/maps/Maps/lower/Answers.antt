@@ -15,7 +15,7 @@ pub returns-in-Some-clause-rows : goal.returns-in-Some-clause-rows
 returns-in-Some-clause-rows c =
     let new : TemplateRow = record { template = c.in-Some.row.now.template; controls = c.in-Some.row.now.controls - 1 } in
     rows_recount (λ n. n - 1) c.args.id c.in-Some.row.now c.args.self.now.rows.entries (c.get_mut.follows.lender new).entries c.args.self.now.ids.entries c.requires.whole
-        (sym c.in-Some.ensures.value) (c.get_mut.follows.holds new).0
+    (sym c.in-Some.ensures.value) (c.get_mut.follows.holds new).0
 
 pub returns-in_default-clause-rows : goal.returns-in_default-clause-rows
 returns-in_default-clause-rows c =

@@ -10,7 +10,7 @@ use Rattle.lvs_templates.proofs.maps.Maps.renew.Goals as goal
 pub returns-clause-whole : goal.returns-clause-whole
 returns-clause-whole c =
     store_each (renew c.args.now) c.args.self.now.rows.entries c.retain.new.self.entries c.args.self.now.ids.entries (renew_id c.args.now) (renew_key c.args.now) c.requires.whole
-        (map_same_pairs _ (renew c.args.now) _ (λ k v b w f' t. search rules) _ _ c.retain.ensures.filtered)
+    (map_same_pairs _ (renew c.args.now) _ (λ k v b w f' t. search rules) _ _ c.retain.ensures.filtered)
 
 pub returns-clause-rows : goal.returns-clause-rows
 returns-clause-rows c =

@@ -9,8 +9,8 @@ returns-clause-rows c =
     let rows = rows_of c.self.inside.maps in
     c.renew.ensures.rows
     ∙ ap (map (renew c.args.now))
-        (c.leave_all.ensures.rows ∙ ap (λ gone. without_all gone rows) (c.deref.ensures.value ∙ c.in_ok-gone.ensures)
-        ∙ taken_out (leaves c.args.now) rows (are_apart c.self.inside.maps.rows.entries c.self.inside.maps.ids.entries c.self.invariant))
+    (c.leave_all.ensures.rows ∙ ap (λ gone. without_all gone rows) (c.deref.ensures.value ∙ c.in_ok-gone.ensures)
+    ∙ taken_out (leaves c.args.now) rows (are_apart c.self.inside.maps.rows.entries c.self.inside.maps.ids.entries c.self.invariant))
     ∙ ap (after_due c.args.now) c.self.view_is
 
 pub returns-clause-rising : goal.returns-clause-rising
