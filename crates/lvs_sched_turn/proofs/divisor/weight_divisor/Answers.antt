@@ -1,7 +1,7 @@
 use Rattle.lvs_sched_turn.proofs.Divisors.{covers_start, covers_taken, covers_passed, covers_all}
 use Rattle.lvs_model.specs.RoundRobin.{eligible_weights}
-use Rattle.lvs_sched_turn.proofs.weights.weight_divisor.Goals as goal
-use Rattle.lvs_sched_turn.proofs.weights.weight_divisor.Goals.{then-server, else-server}
+use Rattle.lvs_sched_turn.proofs.divisor.weight_divisor.Goals as goal
+use Rattle.lvs_sched_turn.proofs.divisor.weight_divisor.Goals.{then-server, else-server}
 
 pub loop-server-init : goal.loop-server-init
 loop-server-init c = covers_start (eligible_weights c.args.servers.now)
