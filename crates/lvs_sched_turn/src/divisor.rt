@@ -1,5 +1,5 @@
 //! The greatest common divisor of the weights of the eligible candidates.
-ghost use Rattle.std.specs.Prelude.{◌≡◌};
+ghost use Rattle.std.specs.Prelude.{◌≡◌, true, false};
 ghost use Rattle.std.specs.Int.{IsGcd};
 ghost use Rattle.lvs_model.specs.RoundRobin.{eligible_weights, common_divisor};
 
@@ -11,11 +11,21 @@ pub(crate) fn weight_divisor(servers: &[Candidate]) -> u32
 {
     let mut divisor = 0;
     for server in servers {
-        if server.eligible {
-            divisor = greatest_common_divisor(divisor, server.weight);
-        }
+        divisor = with_weight(divisor, server);
     }
     divisor
+}
+
+/// The divisor with one more server, where it is eligible.
+fn with_weight(divisor: u32, server: &Candidate) -> u32
+    ensures eligible { server.now.eligible ≡ true → IsGcd divisor server.now.weight result }
+    ensures other { server.now.eligible ≡ false → result ≡ divisor }
+{
+    if server.eligible {
+        greatest_common_divisor(divisor, server.weight)
+    } else {
+        divisor
+    }
 }
 
 /// Euclid's algorithm.
