@@ -5,8 +5,9 @@ ghost use Rattle.std.specs.Option.{option_map};
 ghost use Rattle.lvs_model.specs.RoundRobin.{pick_wrr, IsEligibleAt, IsNoneEligible, placed, offer, offer_turn, next_number, eligible_weights, greatest};
 ghost use Rattle.lvs_sched_turn.specs.Places.{IsFound};
 
+use crate::divisor::weight_divisor;
+use crate::greatest::greatest_weight;
 use crate::place::{first_of_weight, place_after};
-use crate::weights::{greatest_weight, weight_divisor};
 use lvs_types::{Candidate, Cursor};
 
 /// The place of the server whose turn it is, from 0, and the cursor that is left; None where no server is eligible.
