@@ -1,5 +1,5 @@
 -- When a server is overloaded: at so many connections (this project's profile of the thresholds of ipvsadm(8), -x and -y).
-use Rattle.std.specs.Prelude.{ℕ, ◌*◌, Bool, true, false, ◌&&◌, ◌||◌, ◌==◌, nat_le, nat_lt, if◌then◌else◌}
+use Rattle.std.specs.Prelude.{ℕ, ◌*◌, Bool, false, ◌&&◌, ◌||◌, ◌==◌, nat_le, nat_lt, if◌then◌else◌}
 use Rattle.lvs_types.specs.declared.dest.DestSpec.{DestSpec}
 
 -- so many connections reach the upper threshold, where there is one

@@ -1,5 +1,5 @@
 -- What a director keeps: flat lists, and nothing computed from them.
-use Rattle.std.specs.Prelude.{ℕ, List, [], Option, None}
+use Rattle.std.specs.Prelude.{ℕ, List, [], None}
 use Rattle.lvs_types.specs.declared.addr.Addr.{Addr}
 use Rattle.lvs_types.specs.declared.service.Service.{Service}
 use Rattle.lvs_types.specs.declared.dest.Dest.{Dest}

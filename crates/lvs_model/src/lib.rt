@@ -1,4 +1,8 @@
 //! The definitions of the director, and laws about them.
 #![tactic(auto)]
 
+pub mod admin;
+mod numbers;
 pub mod worked_examples;
+
+pub use numbers::{bucket_of, mix, worker_of};

@@ -22,6 +22,8 @@ mod snapshot;
 mod status;
 mod sync;
 mod template;
+#[cfg(test)]
+mod tests;
 
 pub use addr::{Addr, DestId, TemplateId};
 pub use book::{Noted, Placed, RoundBook, RoundPlan, Shown, ShownText};

@@ -1,0 +1,24 @@
+-- The servers of the worked examples of picks.
+use Rattle.std.specs.Prelude.{ℕ, true, false, Some, None}
+use Rattle.lvs_types.specs.declared.dest.Candidate.{Candidate}
+use Rattle.lvs_types.specs.declared.service.Cursor.{Cursor}
+
+-- an eligible server of that id and weight, with so many active and inactive connections
+abbrev pub loaded : ℕ → ℕ → ℕ → ℕ → Candidate
+loaded id weight active inactive = record { id = record { 0 = id }; weight = weight; active = active; inactive = inactive; eligible = true }
+
+-- one without connections
+abbrev pub idle : ℕ → ℕ → Candidate
+idle id weight = loaded id weight 0 0
+
+-- one that isn't eligible
+abbrev pub closed : ℕ → ℕ → Candidate
+closed id weight = record (idle id weight) { eligible = false }
+
+-- a cursor after the server of that id, with that number
+abbrev pub cursor_after : ℕ → ℕ → Cursor
+cursor_after id number = record { last = Some (record { 0 = id }); cw = number }
+
+-- the cursor of a new service
+abbrev pub fresh : Cursor
+fresh = record { last = None; cw = 0 }

@@ -1,0 +1,19 @@
+//! The top call: reads the program's words and its input, runs the rounds and writes their report.
+#![tactic(auto)]
+
+mod director;
+mod done;
+mod input;
+mod played;
+mod program_words;
+mod round;
+mod serial;
+mod top;
+mod written;
+
+pub use done::Done;
+pub use serial::serve_serial;
+pub use top::serve;
+
+#[cfg(test)]
+mod tests;

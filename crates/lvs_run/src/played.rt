@@ -1,0 +1,92 @@
+//! Round after round, each written when it is done.
+ghost use Rattle.std.specs.Prelude.{◌≡◌, ◌≢◌, ◌+◌, []};
+ghost use Rattle.std.specs.Io.KnownBytes.{Appends};
+ghost use Rattle.lvs_outside.specs.Faults.{Rose};
+ghost use Rattle.lvs_model.specs.Report.{books_text};
+ghost use Rattle.lvs_run.specs.Written.{AppendsAllButLast, AppendsPart};
+ghost use Rattle.lvs_run.specs.Rounds.{IsAfterInput};
+
+use crate::Done;
+use crate::director::Director;
+use crate::done::without_rounds;
+use crate::round::play_round;
+use crate::written::{Wrote, write_round};
+use lvs_outside::Sink;
+use lvs_script::{ScriptRefused, read_script};
+use lvs_types::{Round, RoundBook, Script, Status};
+use std::alloc::Global;
+
+fn ended(status: Status, rounds: Vec<RoundBook>) -> Done
+    ensures { result ≡ record { status = status; rounds = rounds } }
+{
+    Done { status, rounds }
+}
+
+/// Plays the rounds one after the other.
+fn play_rounds<K: Sink>(
+    alloc: Global,
+    director: &mut Director,
+    rounds: &[Round],
+    sink: &mut K,
+) -> Done
+    ensures finished { result.status ≡ Status.Finished → Appends (K.written sink.old) (K.written sink.new) (books_text result.rounds.items) }
+    ensures write_fault { result.status ≡ Status.WriteFault → AppendsAllButLast (K.written sink.old) (K.written sink.new) result.rounds.items }
+    ensures no_memory { result.status ≡ Status.NoMemory → AppendsPart (K.written sink.old) (K.written sink.new) (books_text result.rounds.items) }
+    ensures rose { result.status ≡ Status.WriteFault → Rose (K.faults sink.old) (K.faults sink.new) }
+    ensures kept { result.status ≢ Status.WriteFault → K.faults sink.new ≡ K.faults sink.old }
+    ensures only { result.status ≢ Status.Finished → result.status ≢ Status.WriteFault → result.status ≢ Status.NoMemory → ⊥ }
+    ensures after { IsAfterInput result.status }
+{
+    let mut books = Vec::new(alloc);
+    for round in rounds {
+        if books.reserve(1).is_err() {
+            return ended(Status::NoMemory, books);
+        }
+        let Ok(book) = play_round(alloc, director, books.len() as u64, round) else {
+            return ended(Status::NoMemory, books);
+        };
+        let wrote = write_round(alloc, &book, sink);
+        books.push_reserved(book);
+        match wrote {
+            Wrote::All => {}
+            Wrote::Front => return ended(Status::WriteFault, books),
+            Wrote::NoMemory => return ended(Status::NoMemory, books),
+        }
+    }
+    ended(Status::Finished, books)
+}
+
+/// Plays the script that the bytes spell, from its start.
+pub(crate) fn play_bytes<K: Sink>(alloc: Global, bytes: &[u8], sink: &mut K) -> Done
+    ensures finished { result.status ≡ Status.Finished → Appends (K.written sink.old) (K.written sink.new) (books_text result.rounds.items) }
+    ensures write_fault { result.status ≡ Status.WriteFault → AppendsAllButLast (K.written sink.old) (K.written sink.new) result.rounds.items }
+    ensures no_memory { result.status ≡ Status.NoMemory → AppendsPart (K.written sink.old) (K.written sink.new) (books_text result.rounds.items) }
+    ensures refused { result.status ≢ Status.Finished → result.status ≢ Status.WriteFault → result.status ≢ Status.NoMemory → (K.written sink.new ≡ K.written sink.old) × (result.rounds.items ≡ []) }
+    ensures rose { result.status ≡ Status.WriteFault → Rose (K.faults sink.old) (K.faults sink.new) }
+    ensures kept { result.status ≢ Status.WriteFault → K.faults sink.new ≡ K.faults sink.old }
+    ensures after { IsAfterInput result.status }
+{
+    match read_script(alloc, bytes) {
+        Ok(script) => play_script(alloc, &script, sink),
+        Err(ScriptRefused::Refused { line, cause }) => {
+            without_rounds(alloc, Status::ScriptRefused { line, cause })
+        }
+        Err(ScriptRefused::NoMemory) => without_rounds(alloc, Status::NoMemory),
+    }
+}
+
+/// Plays a script from its start.
+fn play_script<K: Sink>(alloc: Global, script: &Script, sink: &mut K) -> Done
+    ensures finished { result.status ≡ Status.Finished → Appends (K.written sink.old) (K.written sink.new) (books_text result.rounds.items) }
+    ensures write_fault { result.status ≡ Status.WriteFault → AppendsAllButLast (K.written sink.old) (K.written sink.new) result.rounds.items }
+    ensures no_memory { result.status ≡ Status.NoMemory → AppendsPart (K.written sink.old) (K.written sink.new) (books_text result.rounds.items) }
+    ensures rose { result.status ≡ Status.WriteFault → Rose (K.faults sink.old) (K.faults sink.new) }
+    ensures kept { result.status ≢ Status.WriteFault → K.faults sink.new ≡ K.faults sink.old }
+    ensures only { result.status ≢ Status.Finished → result.status ≢ Status.WriteFault → result.status ≢ Status.NoMemory → ⊥ }
+    ensures after { IsAfterInput result.status }
+{
+    match Director::new(alloc, script.local) {
+        Ok(mut director) => play_rounds(alloc, &mut director, script.rounds.as_slice(), sink),
+        Err(_) => without_rounds(alloc, Status::NoMemory),
+    }
+}

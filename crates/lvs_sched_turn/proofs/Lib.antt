@@ -1,0 +1,4 @@
+pub mod Placing
+pub mod Turns
+pub mod Offers
+pub mod Divisors

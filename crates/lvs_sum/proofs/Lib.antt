@@ -1,0 +1,4 @@
+pub mod Folding
+pub mod Keeping
+pub mod Puts
+pub mod WordSums

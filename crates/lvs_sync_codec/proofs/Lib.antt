@@ -1,0 +1,4 @@
+mod Skipping
+mod Appending
+mod OneByOne
+mod Again

@@ -1,0 +1,6 @@
+use Rattle.std.proofs.Common.{append_assoc}
+use Rattle.lvs_sync_codec.proofs.writing.put_old_record.Goals as goal
+
+pub returns : goal.returns
+returns c =
+    rw (c.in_ok-put_word-2.ensures, c.in_ok-put_word.ensures, c.in_ok-put_addresses.ensures, c.in_ok-put_ports.ensures, c.in_ok-extend_from_slice.ensures.items) (simp append_assoc)
