@@ -1,4 +1,4 @@
-use Rattle.std.proofs.Common.{ℕ, List, Bor, string_bytes, arith, Global}
+use Rattle.std.proofs.Common.{ℕ, List, Bor, arith}
 use Rattle.lvs_admin.proofs.ManyValues.{too_many}
 use Rattle.lvs_admin.proofs.sysctl.read_value_slices.Goals as goal
 
