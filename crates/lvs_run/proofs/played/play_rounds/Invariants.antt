@@ -1,0 +1,10 @@
+use Rattle.std.proofs.Common.{◌≡◌}
+use Rattle.std.specs.Io.KnownBytes.{Appends}
+use Rattle.lvs_model.specs.Report.{books_text}
+use Rattle.lvs_run.proofs.played.play_rounds.Given as goal
+
+abbrev pub invariant-loop-round : goal.invariant-loop-round
+invariant-loop-round g l = record {
+  written : Appends (g.K.Sink.written l.initial.sink) (g.K.Sink.written l.sink) (books_text l.books.items);
+  kept : g.K.Sink.faults l.sink ≡ g.K.Sink.faults l.initial.sink;
+}
