@@ -43,3 +43,4 @@ pub mod AdminTables
 pub mod AdminWords
 pub mod AdminLines
 pub mod SysctlWords
+pub mod Counted

@@ -3,6 +3,7 @@
 
 pub mod admin;
 mod numbers;
+pub mod laws;
 pub mod worked_examples;
 
 pub use numbers::{bucket_of, mix, worker_of};
