@@ -2,8 +2,8 @@
 #![tactic(auto)]
 
 pub mod admin;
-mod numbers;
 pub mod laws;
+mod numbers;
 pub mod worked_examples;
 
 pub use numbers::{bucket_of, mix, worker_of};

@@ -32,7 +32,7 @@ pub part_without_last : (old new : Option (List ℕ)) (books : List RoundBook) (
 part_without_last old new books book before =
     let front : length (books_text books) ≤ length (books_text books) = omega arith in
     let here : take (length (books_text books)) (books_text (books ++ book ∷ [])) ≡ books_text books =
-        ap (λ (t : List ℕ). take (length (books_text books)) t) (books_push books book) ∙ rw take-append-le (take-length (books_text books)) in
+    ap (λ (t : List ℕ). take (length (books_text books)) t) (books_push books book) ∙ rw take-append-le (take-length (books_text books)) in
     let longer : length (books_text (books ++ book ∷ [])) ≡ length (books_text books) + length (round_text book) =
-        ap (λ (t : List ℕ). length t) (books_push books book) ∙ length-append (books_text books) (round_text book) in
+    ap (λ (t : List ℕ). length t) (books_push books book) ∙ length-append (books_text books) (round_text book) in
     (length (books_text books), omega arith, subst (λ (t : List ℕ). Appends old new t) (sym here) before)
