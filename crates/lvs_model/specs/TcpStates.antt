@@ -1,5 +1,5 @@
 -- The state of a TCP connection after a packet, as a director that sees one or both sides of it keeps it (RFC 9293, section 3.3.2; the tables are those of Linux ipvs).
-use Rattle.std.specs.Prelude.{ℕ, Bool, List, [], ◌∷◌, Option, Some, None, slice_index_or, if◌then◌else◌}
+use Rattle.std.specs.Prelude.{List, [], ◌∷◌, Option, Some, None, slice_index_or, if◌then◌else◌}
 use Rattle.lvs_types.specs.declared.head.Head.{Head}
 use Rattle.lvs_types.specs.declared.entry.Direction.{Direction}
 use Rattle.lvs_types.specs.declared.entry.Direction.TheVariants.{Input, Output, InputOnly}
