@@ -43,3 +43,5 @@ pub mod AdminTables
 pub mod AdminWords
 pub mod AdminLines
 pub mod SysctlWords
+pub mod Lines
+pub mod Scripts

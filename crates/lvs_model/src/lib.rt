@@ -3,6 +3,7 @@
 
 pub mod admin;
 mod numbers;
+pub mod script;
 pub mod worked_examples;
 
 pub use numbers::{bucket_of, mix, worker_of};
