@@ -1,5 +1,5 @@
 -- What the code's answers say.
-use Rattle.std.specs.Prelude.{ℕ, Result, Ok, Err}
+use Rattle.std.specs.Prelude.{Result, Ok, Err}
 use Rattle.lvs_model.specs.declared.admin.WordsRead.{WordsRead}
 use Rattle.lvs_model.specs.declared.admin.BadWord.{BadWord}
 

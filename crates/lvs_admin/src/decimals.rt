@@ -128,8 +128,8 @@ pub(crate) fn read_endpoint(word: &[u8]) -> Option<Endpoint>
 
 /// The lengths that a mask can have.
 const MASK_LENGTHS: [u8; 33] = [
-    0, 1, 2, 3, 4, 5, 6, 7, 8, 9, 10, 11, 12, 13, 14, 15, 16, 17, 18, 19, 20, 21, 22, 23, 24, 25, 26,
-    27, 28, 29, 30, 31, 32,
+    0, 1, 2, 3, 4, 5, 6, 7, 8, 9, 10, 11, 12, 13, 14, 15, 16, 17, 18, 19, 20, 21, 22, 23, 24, 25,
+    26, 27, 28, 29, 30, 31, 32,
 ];
 
 fn is_mask(number: u32, bits: u8) -> bool

@@ -11,7 +11,13 @@ fn is_tcp(service: Option<GivenService>) -> bool
 {
     match service {
         None => false,
-        Some(service) => matches!(service.key, ServiceKey::Net { proto: Proto::Tcp, .. }),
+        Some(service) => matches!(
+            service.key,
+            ServiceKey::Net {
+                proto: Proto::Tcp,
+                ..
+            }
+        ),
     }
 }
 
@@ -21,7 +27,13 @@ fn is_udp(service: Option<GivenService>) -> bool
 {
     match service {
         None => false,
-        Some(service) => matches!(service.key, ServiceKey::Net { proto: Proto::Udp, .. }),
+        Some(service) => matches!(
+            service.key,
+            ServiceKey::Net {
+                proto: Proto::Udp,
+                ..
+            }
+        ),
     }
 }
 

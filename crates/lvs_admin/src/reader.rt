@@ -5,6 +5,7 @@ ghost use Rattle.lvs_admin.specs.Answers.{read_or_refused};
 
 use crate::decimals::is_number;
 use crate::given::{is_given, is_second};
+use crate::refused::bad;
 use crate::tables::{allows, awaited_after, command_of, option_of};
 use crate::values::{endpoint, mask, number, role, scheduler, sync_id};
 use lvs_model::admin::{
@@ -107,16 +108,10 @@ impl Reader {
         ensures { read_or_refused result self.new.read ≡ take_known at option self.old.read }
     {
         if is_given(&self.read, option) {
-            return Err(BadWord {
-                at,
-                cause: WordsCause::Repeated,
-            });
+            return Err(bad(at, WordsCause::Repeated));
         }
         if !allows(self.read.command, option) || is_second(&self.read, option) {
-            return Err(BadWord {
-                at,
-                cause: WordsCause::Conflict,
-            });
+            return Err(bad(at, WordsCause::Conflict));
         }
         self.set_option(at, option);
         Ok(())
@@ -127,21 +122,12 @@ impl Reader {
         ensures { read_or_refused result self.new.read ≡ take_option at word.now self.old.read }
     {
         if !is_dashed(word) {
-            return Err(BadWord {
-                at,
-                cause: WordsCause::Extra,
-            });
+            return Err(bad(at, WordsCause::Extra));
         }
         match (option_of(word), command_of(word)) {
             (Some(option), _) => self.take_known(at, option),
-            (None, Some(_)) => Err(BadWord {
-                at,
-                cause: WordsCause::Conflict,
-            }),
-            (None, None) => Err(BadWord {
-                at,
-                cause: WordsCause::UnknownOption,
-            }),
+            (None, Some(_)) => Err(bad(at, WordsCause::Conflict)),
+            (None, None) => Err(bad(at, WordsCause::UnknownOption)),
         }
     }
 

@@ -7,6 +7,7 @@ ghost use Rattle.lvs_model.specs.AdminTables.{scheduler_of};
 ghost use Rattle.lvs_model.specs.AdminWords.{role_of};
 
 use crate::decimals::{read_between, read_endpoint, read_mask};
+use crate::refused::bad;
 use crate::tables::{is_name, scheduler_of};
 use lvs_model::admin::{BadWord, DaemonRole, Endpoint};
 use lvs_types::{Scheduler, WordsCause};
@@ -15,10 +16,7 @@ use lvs_types::{Scheduler, WordsCause};
 pub(crate) fn number(at: usize, least: u32, limit: u32, word: &[u8]) -> Result<u32, BadWord>
     ensures { result ≡ needed at cause.BadNumber (number_between least limit word.now) }
 {
-    read_between(least, limit, word).ok_or(BadWord {
-        at,
-        cause: WordsCause::BadNumber,
-    })
+    read_between(least, limit, word).ok_or(bad(at, WordsCause::BadNumber))
 }
 
 /// A sync id, 0 to 255.
@@ -26,10 +24,7 @@ pub(crate) fn sync_id(at: usize, word: &[u8]) -> Result<u8, BadWord>
     ensures { result ≡ needed at cause.BadNumber (number_between 0 255 word.now) }
 {
     match read_between(0, 255, word) {
-        None => Err(BadWord {
-            at,
-            cause: WordsCause::BadNumber,
-        }),
+        None => Err(bad(at, WordsCause::BadNumber)),
         Some(id) => Ok(id as u8),
     }
 }
@@ -38,30 +33,21 @@ pub(crate) fn sync_id(at: usize, word: &[u8]) -> Result<u8, BadWord>
 pub(crate) fn endpoint(at: usize, word: &[u8]) -> Result<Endpoint, BadWord>
     ensures { result ≡ needed at cause.BadAddress (endpoint_of word.now) }
 {
-    read_endpoint(word).ok_or(BadWord {
-        at,
-        cause: WordsCause::BadAddress,
-    })
+    read_endpoint(word).ok_or(bad(at, WordsCause::BadAddress))
 }
 
 /// How many ones a mask has.
 pub(crate) fn mask(at: usize, word: &[u8]) -> Result<u8, BadWord>
     ensures { result ≡ needed at cause.BadAddress (mask_of word.now) }
 {
-    read_mask(word).ok_or(BadWord {
-        at,
-        cause: WordsCause::BadAddress,
-    })
+    read_mask(word).ok_or(bad(at, WordsCause::BadAddress))
 }
 
 /// The name of a scheduler.
 pub(crate) fn scheduler(at: usize, word: &[u8]) -> Result<Scheduler, BadWord>
     ensures { result ≡ needed at cause.BadScheduler (scheduler_of word.now) }
 {
-    scheduler_of(word).ok_or(BadWord {
-        at,
-        cause: WordsCause::BadScheduler,
-    })
+    scheduler_of(word).ok_or(bad(at, WordsCause::BadScheduler))
 }
 
 /// `master` or `backup`.
@@ -81,8 +67,5 @@ fn role_of(word: &[u8]) -> Option<DaemonRole>
 pub(crate) fn role(at: usize, word: &[u8]) -> Result<DaemonRole, BadWord>
     ensures { result ≡ needed at cause.UnknownOption (role_of word.now) }
 {
-    role_of(word).ok_or(BadWord {
-        at,
-        cause: WordsCause::UnknownOption,
-    })
+    role_of(word).ok_or(bad(at, WordsCause::UnknownOption))
 }

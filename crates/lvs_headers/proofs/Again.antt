@@ -1,5 +1,5 @@
 -- The bytes of a packet up to its total length are read as the same packet.
-use Rattle.std.proofs.Common.{◌≡◌, ℕ, ◌+◌, ◌-◌, ◌*◌, ◌/◌, ◌%◌, ◌<◌, ◌≤◌, Bool, true, false, cond, List, length, take, get_or, Result, Ok, Err, refl, sym, ap, arith, ◌∙◌}
+use Rattle.std.proofs.Common.{◌≡◌, ℕ, ◌+◌, ◌*◌, ◌/◌, ◌%◌, ◌<◌, ◌≤◌, Bool, true, false, List, length, take, get_or, Result, Ok, Err, refl, ap, arith, ◌∙◌}
 use Rattle.std.specs.Prelude.{not, ◌&&◌, ◌||◌, ◌==◌, nat_lt, if◌then◌else◌}
 use Rattle.std.proofs.lemmas.Bool.Decides.{nat_tests}
 use Rattle.std.proofs.lemmas.List.{get_or-take, length-take-le, take-take}
@@ -139,23 +139,23 @@ port_same t w bytes place same front fits low =
     let tests : (is_tcp w || is_udp w) ≡ (is_tcp bytes || is_udp bytes) = ap (λ (b : Bool). b || is_udp w) (tcp_same w bytes front) ∙ ap (λ (b : Bool). is_tcp bytes || b) (udp_same w bytes front) in
     ap (λ (b : Bool). if b then word_at w (header_len_of w + place) else 0) tests
     ∙ if_same (is_tcp bytes || is_udp bytes) (word_at w (header_len_of w + place)) (word_at bytes (header_len_of bytes + place)) (λ some.
-        let h : header_len_of bytes + 8 ≤ t = either_fits (is_tcp bytes) (is_udp bytes) (header_len_of bytes) t fits.tcp fits.udp some in
-        ap (λ (n : ℕ). word_at w (n + place)) front.header ∙ word_same t w bytes (header_len_of bytes + place) same (omega arith))
+    let h : header_len_of bytes + 8 ≤ t = either_fits (is_tcp bytes) (is_udp bytes) (header_len_of bytes) t fits.tcp fits.udp some in
+    ap (λ (n : ℕ). word_at w (n + place)) front.header ∙ word_same t w bytes (header_len_of bytes + place) same (omega arith))
 
 control_same : (t : ℕ) (w bytes : List ℕ) (value : ℕ) → IsFront t w bytes → FrontSame w bytes → Fits t bytes → control_bit value w ≡ control_bit value bytes
 control_same t w bytes value same front fits =
     ap (λ (b : Bool). b && (get_or w (header_len_of w + 13) 0 / value % 2 == 1)) (tcp_same w bytes front)
     ∙ and_same (is_tcp bytes) (get_or w (header_len_of w + 13) 0 / value % 2 == 1) (get_or bytes (header_len_of bytes + 13) 0 / value % 2 == 1) (λ some.
-        let h : header_len_of bytes + 20 ≤ t = fits.tcp some in
-        ap (λ (x : ℕ). x / value % 2 == 1) (after_same t w bytes 13 same front (omega arith)))
+    let h : header_len_of bytes + 20 ≤ t = fits.tcp some in
+    ap (λ (x : ℕ). x / value % 2 == 1) (after_same t w bytes 13 same front (omega arith)))
 
 short_same : (t : ℕ) (w bytes : List ℕ) → IsFront t w bytes → FrontSame w bytes → Fits t bytes →
     ((is_tcp w && is_tcp_short w) || (is_udp w && is_udp_short w)) ≡ ((is_tcp bytes && is_tcp_short bytes) || (is_udp bytes && is_udp_short bytes))
 short_same t w bytes same front fits =
     let tcp : (is_tcp w && is_tcp_short w) ≡ (is_tcp bytes && is_tcp_short bytes) =
-        ap (λ (b : Bool). b && is_tcp_short w) (tcp_same w bytes front) ∙ and_same (is_tcp bytes) (is_tcp_short w) (is_tcp_short bytes) (λ some. tcp_short_same t w bytes same front (fits.tcp some)) in
+    ap (λ (b : Bool). b && is_tcp_short w) (tcp_same w bytes front) ∙ and_same (is_tcp bytes) (is_tcp_short w) (is_tcp_short bytes) (λ some. tcp_short_same t w bytes same front (fits.tcp some)) in
     let udp : (is_udp w && is_udp_short w) ≡ (is_udp bytes && is_udp_short bytes) =
-        ap (λ (b : Bool). b && is_udp_short w) (udp_same w bytes front) ∙ ap (λ (b : Bool). is_udp bytes && b) (udp_short_same w bytes front) in
+    ap (λ (b : Bool). b && is_udp_short w) (udp_same w bytes front) ∙ ap (λ (b : Bool). is_udp bytes && b) (udp_short_same w bytes front) in
     ap (λ (b : Bool). b || (is_udp w && is_udp_short w)) tcp ∙ ap (λ (b : Bool). (is_tcp bytes && is_tcp_short bytes) || b) udp
 
 -- heads that agree in each field
@@ -185,7 +185,7 @@ head_same t w bytes long same front fits =
 pub read_again : (bytes : List ℕ) (head : Head) → read bytes ≡ Ok head → read (whole_of bytes) ≡ Ok head
 read_again bytes head is =
     let p = passed (nat_lt (length bytes) 20) (not (version_of bytes == 4)) (nat_lt (header_len_of bytes) 20 || nat_lt (length bytes) (header_len_of bytes)) (nat_lt (total_of bytes) (header_len_of bytes) || nat_lt (length bytes) (total_of bytes))
-        (not (is_valid_header (take (header_len_of bytes) bytes))) ((is_tcp bytes && is_tcp_short bytes) || (is_udp bytes && is_udp_short bytes)) (head_of bytes) head is in
+    (not (is_valid_header (take (header_len_of bytes) bytes))) ((is_tcp bytes && is_tcp_short bytes) || (is_udp bytes && is_udp_short bytes)) (head_of bytes) head is in
     let t : ℕ = total_of bytes in
     let w : List ℕ = whole_of bytes in
     let headers = neither (nat_lt (header_len_of bytes) 20) (nat_lt (length bytes) (header_len_of bytes)) p.header in

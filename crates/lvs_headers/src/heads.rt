@@ -3,22 +3,26 @@ ghost use Rattle.std.specs.Prelude.{◌≡◌, ◌+◌, ◌≤◌, ◌||◌, tru
 ghost use Rattle.lvs_headers.specs.Rest.{read_rest};
 ghost use Rattle.lvs_model.specs.Reading.{header_len_of, total_of, head_of, is_tcp, is_udp, is_tcp_short, is_udp_short};
 
-use lvs_types::{Head, Malformed};
-
 use crate::fields::{addr_at, forbids_fragments, header_len, is_fragment, total, word_at};
+use lvs_types::{Head, Malformed};
 
 /// The protocols' numbers (RFC 9293, section 3.1; RFC 768).
 const TCP: u8 = 6;
+
 const UDP: u8 = 17;
 
 /// The shortest TCP header and the UDP header, in bytes.
 const TCP_HEADER: u16 = 20;
+
 const UDP_HEADER: u16 = 8;
 
 /// The places of the control bits in their byte, from the lowest (RFC 9293, section 3.1).
 const FIN: u32 = 0;
+
 const SYN: u32 = 1;
+
 const RST: u32 = 2;
+
 const ACK: u32 = 4;
 
 /// What the IP header says, its ports 0 and its flags false.

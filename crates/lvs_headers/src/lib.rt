@@ -4,5 +4,7 @@
 mod fields;
 mod heads;
 mod packet;
+#[cfg(test)]
+mod tests;
 
 pub use packet::{Packet, read_packet};

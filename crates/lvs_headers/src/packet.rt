@@ -1,20 +1,19 @@
 //! A packet that was read, with the parts of the bytes that it was read from.
-ghost use Rattle.std.specs.Prelude.{◌≡◌, ◌≤◌, length, take, MatchResult, IfOk, Ok, Err};
+ghost use Rattle.std.specs.Prelude.{◌≡◌, ◌≤◌, length, take, drop, MatchResult, IfOk, Ok, Err};
 ghost use Rattle.lvs_headers.specs.Rest.{read_rest};
 ghost use Rattle.lvs_model.specs.Reading.{read, header_len_of, total_of, whole_of, payload_of};
 
+use crate::fields::{header_len, total};
+use crate::heads::read_transport;
 use lvs_sum::fold;
 use lvs_types::{Head, Malformed};
 use std::marker::Model;
-
-use crate::fields::{header_len, total};
-use crate::heads::read_transport;
 
 /// The shortest IP header, in bytes.
 const IP_HEADER: u16 = 20;
 
 /// A packet that was read: what its headers say, and parts of the bytes that it was read from.
-#[derive(Drop)]
+#[derive(Debug, Drop)]
 pub struct Packet<'a> {
     head: Head,
     whole: &'a [u8],
@@ -88,6 +87,7 @@ pub fn read_packet(bytes: &[u8]) -> Result<Packet<'_>, Malformed>
     ensures reading { MatchResult result (λ p. read bytes.now ≡ Ok p.head) (λ e. read bytes.now ≡ Err e) }
     ensures whole { IfOk result (λ p. p.whole ≡ whole_of bytes.now) }
     ensures payload { IfOk result (λ p. p.payload ≡ payload_of bytes.now) }
+    ensures after { IfOk result (λ p. p.payload ≡ drop p.head.header_len p.whole) }
     ensures cut { IfOk result (λ p. p.whole ≡ take p.head.total bytes.now) }
     ensures total { IfOk result (λ p. length p.whole ≡ p.head.total) }
     ensures again { IfOk result (λ p. read p.whole ≡ Ok p.head) }

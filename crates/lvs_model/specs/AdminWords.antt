@@ -106,23 +106,23 @@ has_method _ _ = false
 
 -- whether an option was given before
 abbrev pub is_given : WordsRead → OptionName → Bool
-is_given r TcpService     = has_service is_tcp r.service
-is_given r UdpService     = has_service is_udp r.service
-is_given r FwmarkService  = has_service is_mark r.service
-is_given r Scheduling     = is_some r.scheduler
-is_given r Persistent     = is_some r.persist
-is_given r Netmask        = is_some r.netmask_at
-is_given r OnePacket      = is_some r.one_packet_at
-is_given r RealServer     = is_some r.server
-is_given r Gatewaying     = has_method Direct r.method
-is_given r Ipip           = has_method Tunnel r.method
-is_given r Masquerading   = has_method Masq r.method
-is_given r Weight         = is_some r.weight
+is_given r TcpService = has_service is_tcp r.service
+is_given r UdpService = has_service is_udp r.service
+is_given r FwmarkService = has_service is_mark r.service
+is_given r Scheduling = is_some r.scheduler
+is_given r Persistent = is_some r.persist
+is_given r Netmask = is_some r.netmask_at
+is_given r OnePacket = is_some r.one_packet_at
+is_given r RealServer = is_some r.server
+is_given r Gatewaying = has_method Direct r.method
+is_given r Ipip = has_method Tunnel r.method
+is_given r Masquerading = has_method Masq r.method
+is_given r Weight = is_some r.weight
 is_given r UpperThreshold = is_some r.upper
 is_given r LowerThreshold = is_some r.lower
-is_given r Numeric        = r.numeric
-is_given r Connection     = r.connection
-is_given r SyncId         = is_some r.sync_id
+is_given r Numeric = r.numeric
+is_given r Connection = r.connection
+is_given r SyncId = is_some r.sync_id
 is_given r McastInterface = r.interface
 
 -- whether an option is a second service option or a second method
@@ -133,15 +133,15 @@ is_second r option = (is_service_option option && is_some r.service) || (is_meth
 
 -- an option that may stand here: what it says by itself, and that its value comes next, where it has one
 abbrev pub with_option : ℕ → OptionName → WordsRead → WordsRead
-with_option at Persistent   r = record r { persist = Some 300; awaited = ValueOf Persistent }
-with_option at Netmask      r = record r { netmask_at = Some at; awaited = ValueOf Netmask }
-with_option at OnePacket    r = record r { one_packet_at = Some at }
-with_option at Gatewaying   r = record r { method = Some Direct }
-with_option at Ipip         r = record r { method = Some Tunnel }
+with_option at Persistent r = record r { persist = Some 300; awaited = ValueOf Persistent }
+with_option at Netmask r = record r { netmask_at = Some at; awaited = ValueOf Netmask }
+with_option at OnePacket r = record r { one_packet_at = Some at }
+with_option at Gatewaying r = record r { method = Some Direct }
+with_option at Ipip r = record r { method = Some Tunnel }
 with_option at Masquerading r = record r { method = Some Masq }
-with_option at Numeric      r = record r { numeric = true }
-with_option at Connection   r = record r { connection = true }
-with_option at option       r = record r { awaited = ValueOf option }
+with_option at Numeric r = record r { numeric = true }
+with_option at Connection r = record r { connection = true }
+with_option at option r = record r { awaited = ValueOf option }
 
 -- an option: repeated, in conflict with the command or another option, or taken
 abbrev pub take_known : ℕ → OptionName → WordsRead → Result WordsRead BadWord

@@ -14,6 +14,7 @@ pub mod ExampleItems
 pub mod Messages
 pub mod MessageReading
 pub mod SyncRules
+pub mod MessageExamples
 pub mod Overload
 pub mod State
 pub mod Report
@@ -42,3 +43,4 @@ pub mod AdminTables
 pub mod AdminWords
 pub mod AdminLines
 pub mod SysctlWords
+pub mod Counted

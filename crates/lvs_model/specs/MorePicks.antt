@@ -29,6 +29,10 @@ pick_fo servers = heaviest is_eligible servers
 abbrev pub pick_ovf : List Candidate → Option ℕ
 pick_ovf servers = heaviest has_room servers
 
+-- the sum of the weights
+abbrev pub total_weight : List Candidate → ℕ
+total_weight servers = sum_by (λ (server : Candidate). server.weight) servers
+
 -- how many slots a server takes in a round of mh, where the weights add up to total: none without a weight (this project's profile)
 abbrev pub turns : ℕ → Candidate → ℕ
 turns total server = if server.weight == 0 then 0 else max 1 (64 * server.weight / total)
@@ -66,7 +70,7 @@ take_slot addrs slots place =
 -- the 256 slots of mh, each with the place of its server: filled in rounds from the servers with a weight, eligible or not (this project's profile)
 unfoldable pub mh_table : List Candidate → List Addr → List (Option ℕ)
 mh_table servers addrs =
-    let round = round_from (sum_by (λ (server : Candidate). server.weight) servers) 0 servers in
+    let round = round_from (total_weight servers) 0 servers in
     fold (take_slot addrs) (replicate 256 None) (takers 256 [] round)
 
 -- Maglev hashing: the place of the server of the client's slot, where it is eligible

@@ -1,10 +1,18 @@
 -- Whose turn it is: round robin, plain and by weight (rr and wrr of ipvsadm(8); the turns and the numbers are this project's profile).
-use Rattle.std.specs.Prelude.{ℕ, zero, suc, ◌+◌, ◌-◌, ◌%◌, max, Bool, ◌&&◌, ◌||◌, ◌==◌, nat_le, nat_lt, if◌then◌else◌, List, [], ◌∷◌, ◌++◌, map, take, Option, Some, None}
+use Rattle.std.specs.Prelude.{◌≡◌, ℕ, ◌<◌, length, slice_get, zero, suc, ◌+◌, ◌-◌, ◌%◌, max, Bool, true, false, ◌&&◌, ◌||◌, ◌==◌, nat_le, nat_lt, if◌then◌else◌, List, [], ◌∷◌, ◌++◌, map, take, Option, Some, None}
 use Rattle.std.specs.Option.{option_map}
-use Rattle.std.specs.List.{find, filter, list_all, enumerate_from, after_first, position_or_len}
+use Rattle.std.specs.List.{find, filter, list_any, list_all, enumerate_from, after_first, position_or_len}
 use Rattle.lvs_types.specs.declared.dest.Candidate.{Candidate}
 use Rattle.lvs_types.specs.declared.service.Cursor.{Cursor}
 use Rattle.lvs_model.specs.Same.{dest_eq}
+
+-- the place is an eligible candidate's
+abbrev pub IsEligibleAt : List Candidate → ℕ → Type 0
+IsEligibleAt cs place = (place < length cs) × (option_map (λ c. c.eligible) (slice_get cs place) ≡ Some true)
+
+-- no candidate is eligible
+abbrev pub IsNoneEligible : List Candidate → Type 0
+IsNoneEligible cs = list_any (λ c. c.eligible) cs ≡ false
 
 -- the candidates with their places in the list, from 0
 abbrev pub placed : List Candidate → List (ℕ × Candidate)

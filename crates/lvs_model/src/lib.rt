@@ -1,8 +1,9 @@
 //! The definitions of the director, and laws about them.
 #![tactic(auto)]
 
-mod numbers;
 pub mod admin;
+pub mod laws;
+mod numbers;
 pub mod worked_examples;
 
 pub use numbers::{bucket_of, mix, worker_of};

@@ -8,3 +8,4 @@ pub mod reading;
 pub mod report;
 pub mod rewriting;
 pub mod states;
+pub mod words;

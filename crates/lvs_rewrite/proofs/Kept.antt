@@ -1,15 +1,15 @@
 -- The checksums of a packet stay right where an address and a port are changed, and both sums with them.
-use Rattle.std.proofs.Common.{◌≡◌, ◌≢◌, ℕ, ◌+◌, ◌-◌, ◌*◌, ◌/◌, ◌%◌, ◌<◌, ◌≤◌, ⊎_elim, Bool, true, false, if◌then◌else◌, ◌==◌, List, [], ◌∷◌, ◌++◌, length, get_or, take, drop, refl, sym, ap, arith, ◌∙◌}
+use Rattle.std.proofs.Common.{◌≡◌, ◌≢◌, ℕ, ◌+◌, ◌-◌, ◌*◌, ◌/◌, ◌%◌, ◌<◌, ◌≤◌, ⊎_elim, Bool, true, false, if◌then◌else◌, ◌==◌, List, length, get_or, take, drop, refl, sym, ap, arith, ◌∙◌}
 use Rattle.std.proofs.lemmas.Bool.{cases_lt}
 use Rattle.std.proofs.lemmas.Bool.Decides.{nat_tests}
 use Rattle.std.proofs.lemmas.List.{get_or-take, get_or-drop, get_or_past, length-take-le}
 use Rattle.std.proofs.Common.{length-drop}
-use Rattle.lvs_sum.specs.Sums.{folded, word_sum, update16, update32, is_valid_header}
+use Rattle.lvs_sum.specs.Sums.{folded, word_sum, update32, is_valid_header}
 use Rattle.lvs_sum.proofs.Folding.{test_full, full_test}
 use Rattle.lvs_sum.proofs.WordSums.{word, put_word, put_number}
 use Rattle.lvs_sum.proofs.Keeping.{AreBytes, moved_sum, header_keeps, part_keeps, part_keeps_ones}
 use Rattle.lvs_model.specs.Fields.{word_at, number_at}
-use Rattle.lvs_model.specs.Rewriting.{with_word, with_number, udp_sum, part_sum}
+use Rattle.lvs_model.specs.Rewriting.{udp_sum, part_sum}
 use Rattle.lvs_rewrite.proofs.Changes.{Places, changed, header_changed, part_changed}
 
 word_take : (end at : ℕ) (bytes : List ℕ) → at + 2 ≤ end → word (take end bytes) at ≡ word_at bytes at

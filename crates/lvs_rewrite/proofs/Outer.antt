@@ -1,5 +1,5 @@
 -- The tunnel's outer header has a right checksum.
-use Rattle.std.proofs.Common.{◌≡◌, ℕ, ◌+◌, ◌-◌, ◌*◌, ◌<◌, ◌≤◌, true, List, arith}
+use Rattle.std.proofs.Common.{◌≡◌, ℕ, ◌+◌, true, arith}
 use Rattle.lvs_types.specs.declared.addr.Addr.{Addr}
 use Rattle.lvs_types.specs.declared.head.Head.{Head}
 use Rattle.lvs_sum.specs.Sums.{folded, word_sum, complement, is_valid_header}

@@ -1,9 +1,9 @@
 -- A whole packet after masquerade: it is the packet with four fields replaced, and its checksums stay right.
-use Rattle.std.proofs.Common.{◌≡◌, ◌≢◌, ℕ, ◌+◌, ◌-◌, ◌*◌, ◌/◌, ◌%◌, ◌<◌, ◌≤◌, Bool, true, false, if◌then◌else◌, ◌==◌, List, [], ◌∷◌, ◌++◌, length, get_or, take, drop, take_all, refl, sym, ap, arith, ◌∙◌}
+use Rattle.std.proofs.Common.{◌≡◌, ◌≢◌, ℕ, ◌+◌, ◌-◌, ◌*◌, ◌/◌, ◌%◌, ◌<◌, ◌≤◌, Bool, true, false, if◌then◌else◌, ◌==◌, List, length, get_or, take, drop, take_all, refl, sym, ap, arith, ◌∙◌}
 use Rattle.std.proofs.lemmas.Bool.Decides.{nat_tests}
 use Rattle.lvs_types.specs.declared.addr.Addr.{Addr}
 use Rattle.lvs_types.specs.declared.head.Head.{Head}
-use Rattle.lvs_sum.specs.Sums.{folded, word_sum, update16, update32, is_valid_header}
+use Rattle.lvs_sum.specs.Sums.{folded, word_sum, update32, is_valid_header}
 use Rattle.lvs_sum.proofs.Folding.{test_full, full_test}
 use Rattle.lvs_sum.proofs.Keeping.{AreBytes}
 use Rattle.lvs_model.specs.Fields.{word_at, number_at}

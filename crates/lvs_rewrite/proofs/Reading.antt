@@ -1,5 +1,5 @@
 -- What the reading of a packet tells of its lengths.
-use Rattle.std.proofs.Common.{◌≡◌, ℕ, ◌+◌, ◌-◌, ◌*◌, ◌/◌, ◌%◌, ◌<◌, ◌≤◌, ◌⊎◌, inl, inr, Bool, true, false, not, ◌&&◌, ◌||◌, cond, if◌then◌else◌, ◌==◌, nat_lt, List, length, take, Result, Ok, Err, refl, sym, ap, subst, MatchBool, arith}
+use Rattle.std.proofs.Common.{◌≡◌, ℕ, ◌+◌, ◌-◌, ◌%◌, ◌<◌, ◌≤◌, Bool, true, false, not, ◌&&◌, ◌||◌, if◌then◌else◌, ◌==◌, nat_lt, List, length, take, Result, Ok, Err, refl, sym, subst, MatchBool, arith}
 use Rattle.std.proofs.lemmas.Bool.Decides.{nat_tests}
 use Rattle.lvs_types.specs.declared.head.Head.{Head}
 use Rattle.lvs_types.specs.declared.head.Malformed.{Malformed}
@@ -10,7 +10,7 @@ use Rattle.lvs_model.specs.Reading.{read, data_offset, payload_len, head_of, ver
 use Rattle.lvs_model.specs.Rewriting.{has_ports, checksum_place}
 
 -- the tests in their order, and what is answered
-abbrev chain : Bool → Bool → Bool → Bool → Bool → Bool → Head → Result Head Malformed
+abbrev pub chain : Bool → Bool → Bool → Bool → Bool → Bool → Head → Result Head Malformed
 chain a b c d e f h = if a then Err Short else (if b then Err Version else (if c then Err HeaderLength else (if d then Err TotalLength else (if e then Err HeaderSum else (if f then Err L4Short else Ok h)))))
 
 -- no test of the chain failed

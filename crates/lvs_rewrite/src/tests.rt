@@ -1,6 +1,9 @@
 //! Rewritten packets against bytes that were written down by hand or summed in full.
+ghost use Rattle.std.specs.Prelude.{◌≡◌, IfOk, length};
+
 use crate::{TooLong, masq_in, masq_out, outer_header};
 use lvs_types::{Addr, Head};
+use std::alloc::{AllocError, Global};
 
 /// The server that a packet is forwarded to.
 const SERVER: Addr = Addr { number: 0xc0a80001 };
@@ -182,6 +185,40 @@ const OUTER: [u8; 20] = [
     0x45, 0x00, 0x00, 0x3c, 0x00, 0x01, 0x40, 0x00, 0x40, 0x04, 0x6f, 0x10, 0x0a, 0x00, 0x00, 0xfe, 0xc0, 0xa8, 0x00, 0x07,
 ];
 
+/// The longest datagram from 172.16.0.9, port 5353, to 10.0.0.1, port 53.
+const LONGEST_HEAD: Head = Head {
+    header_len: 20,
+    total: 65535,
+    code: 17,
+    tos: 0,
+    id: 1,
+    dont_fragment: true,
+    fragment: false,
+    ttl: 64,
+    src: Addr { number: 0xac100009 },
+    dst: Addr { number: 0x0a000001 },
+    sport: 5353,
+    dport: 53,
+    syn: false,
+    ack: false,
+    fin: false,
+    rst: false,
+};
+
+/// The headers of that packet, whose payload is 65,507 bytes of 0.
+#[rattlefmt::skip]
+const LONGEST: [u8; 28] = [
+    0x45, 0x00, 0xff, 0xff, 0x00, 0x01, 0x40, 0x00, 0x40, 0x11, 0x84, 0xd2, 0xac, 0x10, 0x00, 0x09, 0x0a, 0x00, 0x00, 0x01,
+    0x14, 0xe9, 0x00, 0x35, 0xff, 0xeb, 0x34, 0xde,
+];
+
+/// The same to 192.168.0.1, port 5300.
+#[rattlefmt::skip]
+const LONGEST_TO_SERVER: [u8; 28] = [
+    0x45, 0x00, 0xff, 0xff, 0x00, 0x01, 0x40, 0x00, 0x40, 0x11, 0xce, 0x29, 0xac, 0x10, 0x00, 0x09, 0xc0, 0xa8, 0x00, 0x01,
+    0x14, 0xe9, 0x14, 0xb4, 0xff, 0xeb, 0x69, 0xb6,
+];
+
 #[test]
 fn masquerades_tcp_both_ways(rt: HostRuntime) {
     let mut there = SYN;
@@ -210,6 +247,27 @@ fn masquerades_behind_options(rt: HostRuntime) {
     let mut bytes = OPTIONS;
     masq_in(&mut bytes, &OPTIONS_HEAD, SERVER, 8080);
     assert_eq!(rt; bytes, OPTIONS_TO_SERVER);
+}
+
+/// The longest datagram to the server, with a payload.
+fn longest_to_server(alloc: Global, payload: &[u8]) -> Result<Vec<u8>, AllocError>
+    requires { length payload.now ≡ 65507 }
+    ensures { IfOk result (λ v. length v.items ≡ 65535) }
+{
+    let mut bytes = LONGEST.to_vec(alloc)?;
+    bytes.extend_from_slice(payload)?;
+    masq_in(&mut bytes, &LONGEST_HEAD, SERVER, 5300);
+    Ok(bytes)
+}
+
+#[test]
+fn masquerades_the_longest_packet(rt: HostRuntime) -> Result<(), AllocError> {
+    let payload = [0; 65507];
+    let bytes = longest_to_server(rt.alloc(), &payload)?;
+    let (headers, rest) = bytes.split_at(28);
+    assert_eq!(rt; headers, &LONGEST_TO_SERVER[..]);
+    assert_eq!(rt; rest, &payload[..]);
+    Ok(())
 }
 
 #[test]

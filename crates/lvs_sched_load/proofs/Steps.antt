@@ -7,8 +7,10 @@ use Rattle.std.proofs.lemmas.Grind.{common_steps}
 use Rattle.std.proofs.lemmas.List.Folds.{list_any_at, list_any_none}
 use Rattle.std.proofs.lemmas.List.Sums.{position_or_len_is}
 use Rattle.std.proofs.lemmas.Option.{slice_get-get_or, slice_get_within, get_or_from_slice_get}
+use Rattle.std.specs.Option.{option_map, IfSome, IfNone}
 use Rattle.lvs_types.specs.declared.dest.Candidate.{Candidate}
 use Rattle.lvs_model.specs.LeastLoad.{AreWeighed, is_weightless, is_best, first_best}
+use Rattle.lvs_model.specs.RoundRobin.{IsEligibleAt, IsNoneEligible}
 use Rattle.lvs_sched_load.specs.Best.{IsBestAmong, IsBest}
 use Rattle.lvs_sched_load.proofs.Ranks.{Ranks}
 
@@ -112,6 +114,14 @@ best_of_all better cs (Some place) (y, best) =
     (λ k below. let within : k < length cs = omega (arith, best.within) in beaten_by better cs place y (get_or cs k y) (get_or cs k y).eligible best.there best.eligible (best.first k below (get_or cs k y) (slice_get-get_or cs k y within)) refl)
     (λ within. ap (is_best better cs) here ∙ best_there better cs place y best))
     best.within
+
+pub best_is_eligible : (better : Candidate → Candidate → Bool) (cs : List Candidate) (r : Option ℕ) → IsBest better cs (length cs) r → IfSome r (λ place. IsEligibleAt cs place)
+best_is_eligible better cs None none = tt
+best_is_eligible better cs (Some place) (y, best) = (best.within, ap (option_map (λ (c : Candidate). c.eligible)) best.there ∙ ap Some best.eligible)
+
+pub none_is_eligible : (better : Candidate → Candidate → Bool) (cs : List Candidate) (r : Option ℕ) → IsBest better cs (length cs) r → IfNone r (IsNoneEligible cs)
+none_is_eligible better cs None none = list_any_none (λ (c : Candidate). c.eligible) cs (λ k d within. none k within (get_or cs k d) (slice_get-get_or cs k d within))
+none_is_eligible better cs (Some place) best = tt
 
 -- the same of what stands at a place
 pub taken_first_at : (better : Candidate → Candidate → Bool) → Ranks better → (cs : List Candidate) (n : ℕ) (d : Candidate) → n < length cs → (get_or cs n d).eligible ≡ true → IsBest better cs n None → IsBest better cs (n + 1) (Some n)

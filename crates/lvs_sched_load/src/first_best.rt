@@ -1,6 +1,7 @@
 //! The first eligible server such that no eligible one is better.
-ghost use Rattle.std.specs.Prelude.{◌≡◌, ◌+◌, ◌<◌, length};
+ghost use Rattle.std.specs.Prelude.{◌≡◌, ◌+◌, ◌<◌, IfSome, IfNone, length};
 ghost use Rattle.lvs_model.specs.LeastLoad.{AreWeighed, first_best};
+ghost use Rattle.lvs_model.specs.RoundRobin.{IsEligibleAt, IsNoneEligible};
 ghost use Rattle.lvs_sched_load.specs.Best.{IsBest};
 ghost use Rattle.lvs_sched_load.specs.Orders.{is_better};
 
@@ -10,7 +11,9 @@ use lvs_types::Candidate;
 /// Its place, from 0; None where no server is eligible.
 pub(crate) fn first_best(order: Order, servers: &[Candidate]) -> Option<usize>
     requires { AreWeighed servers.now }
-    ensures { result ≡ first_best (is_better order) servers.now }
+    ensures pick { result ≡ first_best (is_better order) servers.now }
+    ensures some { IfSome result (λ place. IsEligibleAt servers.now place) }
+    ensures none { IfNone result (IsNoneEligible servers.now) }
 {
     let mut best = None;
     for place in 0..servers.len() {

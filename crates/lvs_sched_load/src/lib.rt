@@ -4,5 +4,7 @@
 mod first_best;
 mod order;
 mod pick;
+#[cfg(test)]
+mod tests;
 
 pub use pick::{pick_lc, pick_nq, pick_sed, pick_wlc};

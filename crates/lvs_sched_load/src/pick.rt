@@ -1,7 +1,8 @@
 //! The picks by load.
-ghost use Rattle.std.specs.Prelude.{◌≡◌};
+ghost use Rattle.std.specs.Prelude.{◌≡◌, IfSome, IfNone};
 ghost use Rattle.std.specs.List.{position};
 ghost use Rattle.lvs_model.specs.LeastLoad.{AreWeighed, is_idle, pick_lc, pick_wlc, pick_sed, pick_nq};
+ghost use Rattle.lvs_model.specs.RoundRobin.{IsEligibleAt, IsNoneEligible};
 
 use crate::first_best::first_best;
 use crate::order::Order;
@@ -12,7 +13,9 @@ use lvs_types::Candidate;
 /// The load is 256 times the active connections plus the inactive ones (ipvsadm(8), lc).
 pub fn pick_lc(servers: &[Candidate]) -> Option<usize>
     requires { AreWeighed servers.now }
-    ensures { result ≡ pick_lc servers.now }
+    ensures pick { result ≡ pick_lc servers.now }
+    ensures some { IfSome result (λ place. IsEligibleAt servers.now place) }
+    ensures none { IfNone result (IsNoneEligible servers.now) }
 {
     first_best(Order::Load, servers)
 }
@@ -21,7 +24,9 @@ pub fn pick_lc(servers: &[Candidate]) -> Option<usize>
 /// where none is eligible (ipvsadm(8), wlc).
 pub fn pick_wlc(servers: &[Candidate]) -> Option<usize>
     requires { AreWeighed servers.now }
-    ensures { result ≡ pick_wlc servers.now }
+    ensures pick { result ≡ pick_wlc servers.now }
+    ensures some { IfSome result (λ place. IsEligibleAt servers.now place) }
+    ensures none { IfNone result (IsNoneEligible servers.now) }
 {
     first_best(Order::LoadOverWeight, servers)
 }
@@ -30,7 +35,9 @@ pub fn pick_wlc(servers: &[Candidate]) -> Option<usize>
 /// one among them, over weight; None where none is eligible (ipvsadm(8), sed).
 pub fn pick_sed(servers: &[Candidate]) -> Option<usize>
     requires { AreWeighed servers.now }
-    ensures { result ≡ pick_sed servers.now }
+    ensures pick { result ≡ pick_sed servers.now }
+    ensures some { IfSome result (λ place. IsEligibleAt servers.now place) }
+    ensures none { IfNone result (IsNoneEligible servers.now) }
 {
     first_best(Order::ExpectedDelay, servers)
 }
@@ -39,7 +46,9 @@ pub fn pick_sed(servers: &[Candidate]) -> Option<usize>
 /// where none is eligible (ipvsadm(8), nq).
 pub fn pick_nq(servers: &[Candidate]) -> Option<usize>
     requires { AreWeighed servers.now }
-    ensures { result ≡ pick_nq servers.now }
+    ensures pick { result ≡ pick_nq servers.now }
+    ensures some { IfSome result (λ place. IsEligibleAt servers.now place) }
+    ensures none { IfNone result (IsNoneEligible servers.now) }
 {
     match first_idle(servers) {
         Some(place) => Some(place),
@@ -48,7 +57,8 @@ pub fn pick_nq(servers: &[Candidate]) -> Option<usize>
 }
 
 fn first_idle(servers: &[Candidate]) -> Option<usize>
-    ensures { result ≡ position is_idle servers.now }
+    ensures first { result ≡ position is_idle servers.now }
+    ensures some { IfSome result (λ place. IsEligibleAt servers.now place) }
 {
     servers
         .iter()

@@ -1,7 +1,6 @@
 //! The filling of a table of mh, in rounds.
 ghost use Rattle.std.specs.Prelude.{◌≡◌, ℕ, ◌+◌, ◌-◌, ◌<◌, ◌≤◌, List, [], ◌++◌, length, fold, replicate, sum_by, count_by, slice_index_or};
-ghost use Rattle.lvs_types.specs.declared.dest.Candidate.{Candidate};
-ghost use Rattle.lvs_model.specs.MorePicks.{is_of, take_slot, takers, round_from, turns};
+ghost use Rattle.lvs_model.specs.MorePicks.{is_of, take_slot, takers, round_from, total_weight, turns};
 ghost use Rattle.lvs_sched_more.specs.Filling.{IsFilling};
 
 use crate::slots::{SLOTS, first_free, preferred, taken_by};
@@ -55,7 +54,7 @@ impl Filling {
     fn round(&mut self, servers: &[Candidate], addrs: &[Addr], total: u128)
         requires filling { IsFilling self.old.free self.old.slots }
         requires addrs { length addrs.now ≡ length servers.now }
-        requires total { total ≡ sum_by (λ (server : Candidate). server.weight) servers.now }
+        requires total { total ≡ total_weight servers.now }
         ensures slots { (round : List ℕ) → fold (take_slot addrs.now) self.new.slots (takers self.new.free [] round) ≡ fold (take_slot addrs.now) self.old.slots (takers self.old.free (round_from total 0 servers.now) round) }
         ensures free { self.new.free ≡ self.old.free - sum_by (turns total) servers.now }
         ensures filling { IsFilling self.new.free self.new.slots }
@@ -72,7 +71,7 @@ impl Filling {
     pub(crate) fn fill(&mut self, servers: &[Candidate], addrs: &[Addr], total: u128)
         requires filling { IsFilling self.old.free self.old.slots }
         requires addrs { length addrs.now ≡ length servers.now }
-        requires total { total ≡ sum_by (λ (server : Candidate). server.weight) servers.now }
+        requires total { total ≡ total_weight servers.now }
         requires some { 0 < total }
         ensures { self.new.slots ≡ fold (take_slot addrs.now) self.old.slots (takers self.old.free [] (round_from total 0 servers.now)) }
     {

@@ -5,6 +5,8 @@ mod filling;
 mod heaviest;
 mod maglev;
 mod slots;
+#[cfg(test)]
+mod tests;
 mod turns;
 
 pub use heaviest::{pick_fo, pick_ovf};

@@ -1,8 +1,10 @@
 //! Maglev hashing: a table that is filled from the servers' weights and addresses.
-ghost use Rattle.std.specs.Prelude.{◌≡◌, ℕ, ◌<◌, List, length, None, IfSome, slice_index_or};
+ghost use Rattle.std.specs.Prelude.{◌≡◌, ℕ, ◌<◌, List, true, length, None, IfSome, is_some, slice_index_or};
 ghost use Rattle.lvs_types.specs.declared.addr.Addr.{Addr};
 ghost use Rattle.lvs_model.specs.AddressHash.{slot_of, eligible_in};
-ghost use Rattle.lvs_model.specs.MorePicks.{mh_table, pick_mh};
+ghost use Rattle.lvs_model.specs.MorePicks.{total_weight, mh_table, pick_mh};
+ghost use Rattle.lvs_sched_more.specs.Evenness.{IsEven};
+ghost use Rattle.std.specs.List.{list_all};
 
 use crate::filling::Filling;
 use crate::slots::{SLOTS, slot};
@@ -28,10 +30,14 @@ impl Model for MhTable {
 impl MhTable {
     /// The slots for servers with these addresses, in order of addition: filled in rounds, in which
     /// each server takes a share of 64 slots by its weight, from the first free one that it prefers
-    /// by its address (this project's profile). Eligible or not, each server with a weight counts.
+    /// by its address (this project's profile). Eligible or not, each server with a weight counts. Of
+    /// two servers with equal shares the earlier has at least as many slots, and at most a share more.
     pub fn of(servers: &[Candidate], addrs: &[Addr]) -> Self
         requires { length addrs.now ≡ length servers.now }
-        ensures { result ≡ mh_table servers.now addrs.now }
+        ensures value { result ≡ mh_table servers.now addrs.now }
+        ensures number { length result ≡ 256 }
+        ensures full { 0 < total_weight servers.now → list_all (λ slot. is_some slot) result ≡ true }
+        ensures even { IsEven servers.now result }
     {
         let total = total_weight(servers);
         let mut filling = Filling {

@@ -1,13 +1,12 @@
 //! How many slots a server takes in a round.
-ghost use Rattle.std.specs.Prelude.{◌≡◌, ℕ, ◌<◌, ◌≤◌, length, sum_by, slice_index_or};
-ghost use Rattle.lvs_types.specs.declared.dest.Candidate.{Candidate};
-ghost use Rattle.lvs_model.specs.MorePicks.{turns};
+ghost use Rattle.std.specs.Prelude.{◌≡◌, ℕ, ◌<◌, ◌≤◌, length, slice_index_or};
+ghost use Rattle.lvs_model.specs.MorePicks.{total_weight, turns};
 
 use lvs_types::Candidate;
 
 /// The sum of the weights.
 pub(crate) fn total_weight(servers: &[Candidate]) -> u128
-    ensures { result ≡ sum_by (λ (server : Candidate). server.weight) servers.now }
+    ensures { result ≡ total_weight servers.now }
 {
     let mut total = 0;
     for server in servers {

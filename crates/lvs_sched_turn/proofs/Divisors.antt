@@ -103,7 +103,7 @@ common_at g ns (suc n) is covers =
 pub common_is : (g : ℕ) (ns : List ℕ) → Covers g [] ns → g ≡ common_divisor ns
 common_is g ns covers = sym (common_at g ns (greatest ns) refl covers)
 
-weights_first : (b : Bool) (c : Candidate) (cs : List Candidate) → c.eligible ≡ b → eligible_weights (c ∷ cs) ≡ cond b (c.weight ∷ eligible_weights cs) (eligible_weights cs)
+pub weights_first : (b : Bool) (c : Candidate) (cs : List Candidate) → c.eligible ≡ b → eligible_weights (c ∷ cs) ≡ cond b (c.weight ∷ eligible_weights cs) (eligible_weights cs)
 weights_first true c cs is = ap (λ b. map (λ (x : Candidate). x.weight) (cond b (c ∷ filter (λ (x : Candidate). x.eligible) cs) (filter (λ (x : Candidate). x.eligible) cs))) is
 weights_first false c cs is = ap (λ b. map (λ (x : Candidate). x.weight) (cond b (c ∷ filter (λ (x : Candidate). x.eligible) cs) (filter (λ (x : Candidate). x.eligible) cs))) is
 
@@ -112,13 +112,21 @@ weights_at b cs i d within is =
     ap eligible_weights (drop-cons cs i d within ∙ sym (ap (λ k. get_or cs i d ∷ drop k cs) (add-one i))) ∙ weights_first b (get_or cs i d) (drop (i + 1) cs) is
 
 -- an eligible candidate is met
-pub covers_taken : (g h : ℕ) (cs : List Candidate) (i : ℕ) (d : Candidate) (all : List ℕ) → i < length cs → (get_or cs i d).eligible ≡ true → IsGcd g (get_or cs i d).weight h → Covers g (eligible_weights (drop i cs)) all → Covers h (eligible_weights (drop (i + 1) cs)) all
+covers_taken : (g h : ℕ) (cs : List Candidate) (i : ℕ) (d : Candidate) (all : List ℕ) → i < length cs → (get_or cs i d).eligible ≡ true → IsGcd g (get_or cs i d).weight h → Covers g (eligible_weights (drop i cs)) all → Covers h (eligible_weights (drop (i + 1) cs)) all
 covers_taken g h cs i d all within is gcd covers =
     covers_step g h (get_or cs i d).weight (eligible_weights (drop (i + 1) cs)) all gcd (subst (λ ws. Covers g ws all) (weights_at true cs i d within is) covers)
 
 -- one that isn't eligible is passed over
-pub covers_passed : (g : ℕ) (cs : List Candidate) (i : ℕ) (d : Candidate) (all : List ℕ) → i < length cs → (get_or cs i d).eligible ≡ false → Covers g (eligible_weights (drop i cs)) all → Covers g (eligible_weights (drop (i + 1) cs)) all
+covers_passed : (g : ℕ) (cs : List Candidate) (i : ℕ) (d : Candidate) (all : List ℕ) → i < length cs → (get_or cs i d).eligible ≡ false → Covers g (eligible_weights (drop i cs)) all → Covers g (eligible_weights (drop (i + 1) cs)) all
 covers_passed g cs i d all within is covers = subst (λ ws. Covers g ws all) (weights_at false cs i d within is) covers
+
+met : (e : Bool) (g h : ℕ) (cs : List Candidate) (i : ℕ) (d : Candidate) (all : List ℕ) → i < length cs → (get_or cs i d).eligible ≡ e → ((get_or cs i d).eligible ≡ true → IsGcd g (get_or cs i d).weight h) → ((get_or cs i d).eligible ≡ false → h ≡ g) → Covers g (eligible_weights (drop i cs)) all → Covers h (eligible_weights (drop (i + 1) cs)) all
+met true g h cs i d all within is taken passed covers = covers_taken g h cs i d all within is (taken is) covers
+met false g h cs i d all within is taken passed covers = subst (λ k. Covers k (eligible_weights (drop (i + 1) cs)) all) (sym (passed is)) (covers_passed g cs i d all within is covers)
+
+-- a candidate is met
+pub covers_met : (g h : ℕ) (cs : List Candidate) (i : ℕ) (d : Candidate) (all : List ℕ) → i < length cs → ((get_or cs i d).eligible ≡ true → IsGcd g (get_or cs i d).weight h) → ((get_or cs i d).eligible ≡ false → h ≡ g) → Covers g (eligible_weights (drop i cs)) all → Covers h (eligible_weights (drop (i + 1) cs)) all
+covers_met g h cs i d all within taken passed covers = met (get_or cs i d).eligible g h cs i d all within refl taken passed covers
 
 -- all have been met
 pub covers_all : (g : ℕ) (cs : List Candidate) (i : ℕ) → length cs ≤ i → Covers g (eligible_weights (drop i cs)) (eligible_weights cs) → g ≡ common_divisor (eligible_weights cs)

@@ -1,14 +1,16 @@
 -- What is taken among the offers of wrr.
-use Rattle.std.proofs.Common.{◌≡◌, ℕ, ◌&&◌, leb, Bool, List, [], ◌∷◌, map, slice_get, Option, Some, None, refl, sym, ◌∙◌, ap, arith}
-use Rattle.std.specs.Option.{option_map, option_or}
-use Rattle.std.specs.List.{find}
+use Rattle.std.proofs.Common.{◌≡◌, ℕ, ◌<◌, ◌≤◌, ◌&&◌, ◌||◌, leb, Bool, true, false, List, [], ◌∷◌, map, slice_get, Option, Some, None, refl, sym, ◌∙◌, ap, arith}
+use Rattle.std.specs.Option.{option_map, option_or, IfNone}
+use Rattle.std.specs.List.{find, list_any}
+use Rattle.std.proofs.lemmas.Bool.Decides.{nat_tests}
 use Rattle.std.proofs.lemmas.List.Folds.{find-append}
 use Rattle.std.proofs.lemmas.Option.{slice_get-get_or}
 use Rattle.lvs_types.specs.declared.dest.Candidate.{Candidate}
 use Rattle.lvs_types.specs.declared.service.Cursor.{Cursor}
-use Rattle.lvs_model.specs.RoundRobin.{placed, after_last, eligible_weights, next_number, Offer, offer, offers, is_taken, offer_turn, pick_wrr}
+use Rattle.lvs_model.specs.RoundRobin.{IsNoneEligible, greatest, placed, after_last, eligible_weights, next_number, Offer, offer, offers, is_taken, offer_turn, pick_wrr}
 use Rattle.lvs_sched_turn.specs.Places.{IsFound}
 use Rattle.lvs_sched_turn.proofs.Placing.{find_map}
+use Rattle.lvs_sched_turn.proofs.Divisors.{weights_first}
 
 -- the candidate is eligible and has at least that weight
 abbrev pub weighs : ℕ → ℕ × Candidate → Bool
@@ -57,3 +59,40 @@ pub turn_of_all : (cs : List Candidate) (place number : ℕ) → IsFound cs (fin
 turn_of_all cs place number is =
     let or_none = or_none_is (option_map (offer number) (find (weighs number) (placed cs))) in
     sym (ap (option_map offer_turn) or_none ∙ turn_found cs place number (find (weighs number) (placed cs)) None is)
+
+weight_below : (e : Bool) (n w : ℕ) → (e && leb n w) ≡ false → e ≡ true → w < n
+weight_below true n w fails is = grind (arith, nat_tests)
+weight_below false n w fails is = absurd (cc)
+
+neither : (a b : Bool) → (a || b) ≡ false → (a ≡ false) × (b ≡ false)
+neither true b is = absurd (cc)
+neither false b is = (refl, is)
+
+none_weighs : (cs : List Candidate) → IsNoneEligible cs → greatest (eligible_weights cs) ≡ 0
+none_weighs [] none = refl
+none_weighs (c ∷ cs) none =
+    let parts = neither c.eligible (list_any (λ (x : Candidate). x.eligible) cs) none in
+    ap greatest (weights_first false c cs parts.0) ∙ none_weighs cs parts.1
+
+reached_step : (e : Bool) (c : Candidate) (cs : List Candidate) (n : ℕ) → c.eligible ≡ e → n ≤ greatest (eligible_weights (c ∷ cs)) → (c.eligible && leb n c.weight) ≡ false → (n ≤ greatest (eligible_weights cs) → IsNoneEligible cs) → IsNoneEligible (c ∷ cs)
+reached_step false c cs n is limit fails later =
+    let same = ap greatest (weights_first false c cs is) in
+    let below : n ≤ greatest (eligible_weights cs) = omega arith in
+    ap (λ b. b || list_any (λ (x : Candidate). x.eligible) cs) is ∙ later below
+reached_step true c cs n is limit fails later =
+    let same = ap greatest (weights_first true c cs is) in
+    let above = weight_below c.eligible n c.weight fails is in
+    let below : n ≤ greatest (eligible_weights cs) = omega arith in
+    let zero = none_weighs cs (later below) in
+    absurd (omega arith)
+
+-- a number that some eligible weight reaches is reached by an eligible candidate, if there is one
+reached : (cs : List Candidate) (n : ℕ) → n ≤ greatest (eligible_weights cs) → list_any (λ (c : Candidate). c.eligible && leb n c.weight) cs ≡ false → IsNoneEligible cs
+reached [] n limit none = refl
+reached (c ∷ cs) n limit none =
+    let parts = neither (c.eligible && leb n c.weight) (list_any (λ (x : Candidate). x.eligible && leb n x.weight) cs) none in
+    reached_step c.eligible c cs n refl limit parts.0 (λ below. reached cs n below parts.1)
+
+pub none_reached : {X : Type 0} (r : Option X) (cs : List Candidate) (n : ℕ) → n ≤ greatest (eligible_weights cs) → IfNone r (list_any (λ (c : Candidate). c.eligible && leb n c.weight) cs ≡ false) → IfNone r (IsNoneEligible cs)
+none_reached None cs n limit none = reached cs n limit none
+none_reached (Some x) cs n limit none = tt

@@ -1,15 +1,17 @@
 -- Where a turn begins, and what is found from there on.
-use Rattle.std.proofs.Common.{◌≡◌, ℕ, ◌<◌, ◌≤◌, ◌+◌, Bool, List, ◌++◌, length, take, drop, slice_get, Option, Some, None, sym, ◌∙◌, ap, subst, arith, length-drop, length-take}
-use Rattle.std.specs.Option.{option_map, option_or}
-use Rattle.std.specs.List.{find, position, position_or_len}
+use Rattle.std.proofs.Common.{◌≡◌, ℕ, ◌<◌, ◌≤◌, ◌+◌, Bool, false, ◌||◌, List, ◌++◌, length, take, drop, slice_get, Option, Some, None, sym, ◌∙◌, ap, subst, arith, length-drop, length-take}
+use Rattle.std.specs.Option.{option_map, option_or, IfSome, IfNone}
+use Rattle.std.specs.List.{find, list_any, position, position_or_len}
 use Rattle.std.proofs.Math.ListN.{drop_of_length-le}
 use Rattle.std.proofs.lemmas.List.{take_all}
-use Rattle.std.proofs.lemmas.List.Folds.{find-append}
+use Rattle.std.proofs.lemmas.List.{take-append-drop}
+use Rattle.std.proofs.lemmas.List.Folds.{find-append, list_any_none, list_any-append}
+use Rattle.std.proofs.lemmas.List.Sums.{fails_before_first}
 use Rattle.std.proofs.lemmas.List.FromFn.{length-enumerate_from}
 use Rattle.lvs_types.specs.declared.dest.Candidate.{Candidate}
 use Rattle.lvs_types.specs.declared.service.Cursor.{Cursor}
 use Rattle.lvs_model.specs.Same.{dest_eq}
-use Rattle.lvs_model.specs.RoundRobin.{placed, is_last, after_last, through_last}
+use Rattle.lvs_model.specs.RoundRobin.{IsEligibleAt, placed, is_last, after_last, through_last}
 use Rattle.lvs_sched_turn.specs.Places.{IsFound}
 use Rattle.lvs_sched_turn.proofs.Placing.{position_some, position_none, place_placed, drop_placed, take_placed, found_placed, none_placed, slice_get-drop, slice_get-take, or_first}
 
@@ -41,6 +43,9 @@ through_nobody cs cursor none =
     let long = length-enumerate_from 0 cs in
     let all : length (placed cs) ≤ length cs = omega arith in
     take_all (length cs) (placed cs) all ∙ sym (take_all (position_or_len (is_last cursor) (placed cs) + 1) (placed cs) (past_all cs cursor none))
+
+neither : (a b : Bool) → a ≡ false → b ≡ false → (a || b) ≡ false
+neither a b first second = ap (λ x. x || b) first ∙ second
 
 -- what is found after a place, and what up to one
 pub found_after : (p : Candidate → Bool) (cs : List Candidate) (start further : ℕ) → position p (drop start cs) ≡ Some further → IsFound cs (find (λ (q : ℕ × Candidate). p q.1) (drop start (placed cs))) (Some (start + further))
@@ -75,3 +80,28 @@ found_then p cs start r after through is was none found =
     let here : find (λ (q : ℕ × Candidate). p q.1) after ≡ None = ap (find (λ (q : ℕ × Candidate). p q.1)) (sym is) ∙ none_after p cs start none in
     let later : find (λ (q : ℕ × Candidate). p q.1) (after ++ through) ≡ find (λ (q : ℕ × Candidate). p q.1) through = find-append (λ (q : ℕ × Candidate). p q.1) after through ∙ ap (λ o. option_or o (find (λ (q : ℕ × Candidate). p q.1) through)) here in
     subst (λ f. IsFound cs f r) (sym later) (subst (λ qs. IsFound cs (find (λ (q : ℕ × Candidate). p q.1) qs) r) was (found_through p cs start r found))
+
+-- an eligible one after a place, and one up to a place
+pub eligible_after : (cs : List Candidate) (start further : ℕ) → IsEligibleAt (drop start cs) further → IsEligibleAt cs (start + further)
+eligible_after cs start further is =
+    let long = length-drop start cs in
+    (omega (arith, is.0), ap (option_map (λ (c : Candidate). c.eligible)) (sym (slice_get-drop start cs further)) ∙ is.1)
+
+pub eligible_through : (cs : List Candidate) (start : ℕ) (r : Option ℕ) → IfSome r (λ place. IsEligibleAt (take start cs) place) → IfSome r (λ place. IsEligibleAt cs place)
+eligible_through cs start None is = tt
+eligible_through cs start (Some place) is =
+    let long = length-take start cs in
+    (omega (arith, is.0), ap (option_map (λ (c : Candidate). c.eligible)) (sym (slice_get-take start cs place is.0)) ∙ is.1)
+
+-- where no place is found, none passes
+pub none_passes : (p : Candidate → Bool) (cs : List Candidate) → position p cs ≡ None → list_any p cs ≡ false
+none_passes p cs none =
+    let past = position_none p cs none in
+    list_any_none p cs (λ k d within. fails_before_first p cs k d (omega arith))
+
+pub none_of_parts : (p : Candidate → Bool) (cs : List Candidate) (start : ℕ) (r : Option ℕ) → position p (drop start cs) ≡ None → position p (take start cs) ≡ r → IfNone r (list_any p cs ≡ false)
+none_of_parts p cs start None after through =
+    let second = none_passes p (drop start cs) after in
+    let first = none_passes p (take start cs) through in
+    ap (list_any p) (sym (take-append-drop start cs)) ∙ list_any-append p (take start cs) (drop start cs) ∙ neither (list_any p (take start cs)) (list_any p (drop start cs)) first second
+none_of_parts p cs start (Some place) after through = tt

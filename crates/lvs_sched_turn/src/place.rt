@@ -1,8 +1,8 @@
 //! Where in a list of candidates a look begins and ends.
-ghost use Rattle.std.specs.Prelude.{◌≡◌, ◌≤◌, ◌&&◌, nat_le, length, drop, take};
+ghost use Rattle.std.specs.Prelude.{◌≡◌, ◌≤◌, ◌&&◌, nat_le, IfSome, length, drop, take};
 ghost use Rattle.std.specs.List.{position};
 ghost use Rattle.lvs_model.specs.Same.{dest_eq};
-ghost use Rattle.lvs_model.specs.RoundRobin.{placed, after_last, through_last};
+ghost use Rattle.lvs_model.specs.RoundRobin.{IsEligibleAt, placed, after_last, through_last};
 
 use lvs_types::{Candidate, Cursor, DestId};
 
@@ -26,14 +26,16 @@ fn place_of(servers: &[Candidate], id: Option<DestId>) -> Option<usize>
 
 /// The first eligible one.
 pub(crate) fn first_eligible(servers: &[Candidate]) -> Option<usize>
-    ensures { result ≡ position (λ c. c.eligible) servers.now }
+    ensures first { result ≡ position (λ c. c.eligible) servers.now }
+    ensures some { IfSome result (λ place. IsEligibleAt servers.now place) }
 {
     servers.iter().position(|server| server.eligible)
 }
 
 /// The first eligible one of at least that weight.
 pub(crate) fn first_of_weight(servers: &[Candidate], least: u32) -> Option<usize>
-    ensures { result ≡ position (λ c. c.eligible && nat_le least c.weight) servers.now }
+    ensures first { result ≡ position (λ c. c.eligible && nat_le least c.weight) servers.now }
+    ensures some { IfSome result (λ place. IsEligibleAt servers.now place) }
 {
     servers
         .iter()

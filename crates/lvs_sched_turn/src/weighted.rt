@@ -1,12 +1,13 @@
 //! Weighted round robin: servers take turns in rounds of falling weight.
-ghost use Rattle.std.specs.Prelude.{◌≡◌, ◌<◌, ◌≤◌, ◌&&◌, nat_le, drop, length, slice_get};
-ghost use Rattle.std.specs.List.{find};
+ghost use Rattle.std.specs.Prelude.{◌≡◌, ◌<◌, ◌≤◌, ◌&&◌, nat_le, false, IfSome, IfNone, drop, length, slice_get};
+ghost use Rattle.std.specs.List.{find, list_any};
 ghost use Rattle.std.specs.Option.{option_map};
-ghost use Rattle.lvs_model.specs.RoundRobin.{pick_wrr, placed, offer, offer_turn, next_number, eligible_weights};
+ghost use Rattle.lvs_model.specs.RoundRobin.{pick_wrr, IsEligibleAt, IsNoneEligible, placed, offer, offer_turn, next_number, eligible_weights, greatest};
 ghost use Rattle.lvs_sched_turn.specs.Places.{IsFound};
 
+use crate::divisor::weight_divisor;
+use crate::greatest::greatest_weight;
 use crate::place::{first_of_weight, place_after};
-use crate::weights::{greatest_weight, weight_divisor};
 use lvs_types::{Candidate, Cursor};
 
 /// The place of the server whose turn it is, from 0, and the cursor that is left; None where no server is eligible.
@@ -14,7 +15,9 @@ use lvs_types::{Candidate, Cursor};
 /// The servers after the cursor's are looked at with its present weight, and then all with the next one, so at most
 /// twice the servers: the first eligible one of at least that weight is picked, and the weight is kept (ipvsadm(8), wrr).
 pub fn pick_wrr(servers: &[Candidate], cursor: &Cursor) -> Option<(usize, Cursor)>
-    ensures { result ≡ pick_wrr servers.now cursor.now }
+    ensures pick { result ≡ pick_wrr servers.now cursor.now }
+    ensures some { IfSome result (λ turn. IsEligibleAt servers.now turn.0) }
+    ensures none { IfNone result (IsNoneEligible servers.now) }
 {
     let start = place_after(servers, cursor);
     match next_place(servers, start, cursor.cw) {
@@ -25,7 +28,9 @@ pub fn pick_wrr(servers: &[Candidate], cursor: &Cursor) -> Option<(usize, Cursor
 
 /// The first one of all, where none of the present round is left.
 fn pick_in_next_round(servers: &[Candidate], weight: u32) -> Option<(usize, Cursor)>
-    ensures { result ≡ option_map offer_turn (option_map (offer weight) (find (λ p. p.1.eligible && nat_le weight p.1.weight) (placed servers.now))) }
+    ensures pick { result ≡ option_map offer_turn (option_map (offer weight) (find (λ p. p.1.eligible && nat_le weight p.1.weight) (placed servers.now))) }
+    ensures some { IfSome result (λ turn. IsEligibleAt servers.now turn.0) }
+    ensures none { IfNone result (list_any (λ c. c.eligible && nat_le weight c.weight) servers.now ≡ false) }
 {
     let place = next_place(servers, 0, weight)?;
     Some(turn(servers, place, weight))
@@ -34,7 +39,9 @@ fn pick_in_next_round(servers: &[Candidate], weight: u32) -> Option<(usize, Curs
 /// The first eligible one of at least that weight, from a place on.
 fn next_place(servers: &[Candidate], start: usize, weight: u32) -> Option<usize>
     requires { start ≤ length servers.now }
-    ensures { IsFound servers.now (find (λ p. p.1.eligible && nat_le weight p.1.weight) (drop start (placed servers.now))) result }
+    ensures found { IsFound servers.now (find (λ p. p.1.eligible && nat_le weight p.1.weight) (drop start (placed servers.now))) result }
+    ensures some { IfSome result (λ place. IsEligibleAt servers.now place) }
+    ensures none { IfNone result (list_any (λ c. c.eligible && nat_le weight c.weight) (drop start servers.now) ≡ false) }
 {
     let (_, after) = servers.split_at(start);
     match first_of_weight(after, weight) {
@@ -45,7 +52,8 @@ fn next_place(servers: &[Candidate], start: usize, weight: u32) -> Option<usize>
 
 fn turn(servers: &[Candidate], place: usize, weight: u32) -> (usize, Cursor)
     requires { place < length servers.now }
-    ensures { Some result ≡ option_map (λ c. offer_turn (record { place = place; server = c; number = weight })) (slice_get servers.now place) }
+    ensures place { result.0 ≡ place }
+    ensures pick { Some result ≡ option_map (λ c. offer_turn (record { place = place; server = c; number = weight })) (slice_get servers.now place) }
 {
     let last = Some(servers[place].id);
     (place, Cursor { last, cw: weight })
@@ -53,7 +61,8 @@ fn turn(servers: &[Candidate], place: usize, weight: u32) -> (usize, Cursor)
 
 /// The weight of the next round: a step lower, or the greatest one again.
 fn next_weight(servers: &[Candidate], weight: u32) -> u32
-    ensures { result ≡ next_number (eligible_weights servers.now) weight }
+    ensures number { result ≡ next_number (eligible_weights servers.now) weight }
+    ensures reached { result ≤ greatest (eligible_weights servers.now) }
 {
     let greatest = greatest_weight(servers);
     let next = weight.saturating_sub(weight_divisor(servers));

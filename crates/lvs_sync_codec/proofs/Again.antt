@@ -1,14 +1,14 @@
 -- What was written is read again.
-use Rattle.std.proofs.Common.{◌≡◌, ◌∙◌, ℕ, zero, suc, ◌+◌, ◌*◌, ◌/◌, ◌%◌, ◌<◌, ◌≤◌, ◌==◌, nat_lt, Bool, true, false, List, [], ◌∷◌, ◌++◌, length, drop, map, flat_map, slice_index, slice_index_or, refl, ap, sym, arith, Result, Ok, Err, length-append, bit_and, All, if◌then◌else◌}
+use Rattle.std.proofs.Common.{◌≡◌, ◌∙◌, ℕ, suc, ◌+◌, ◌*◌, ◌/◌, ◌%◌, ◌<◌, ◌≤◌, ◌==◌, nat_lt, true, false, List, [], ◌∷◌, ◌++◌, length, drop, map, flat_map, slice_index, refl, ap, sym, arith, Result, Ok, length-append, bit_and, All}
 use Rattle.std.proofs.lemmas.Bool.Decides.{nat_tests}
 use Rattle.lvs_types.specs.declared.sync.SyncRecord.{SyncRecord}
 use Rattle.lvs_types.specs.declared.sync.SyncItem.{SyncItem}
 use Rattle.lvs_types.specs.declared.sync.SyncItem.TheVariants.{V4}
 use Rattle.lvs_types.specs.declared.sync.Message.{Message}
 use Rattle.lvs_types.specs.declared.sync.BadSync.{BadSync}
-use Rattle.lvs_model.specs.Fields.{word_at, number_at}
-use Rattle.lvs_model.specs.Messages.{written, record_bytes, header_bytes, old_record_bytes, old_header_bytes, HasOldFlags}
-use Rattle.lvs_model.specs.MessageReading.{◌>>=◌, RecordRead, records_by, read_record, record_of, record_size, record_version, is_v6, read_old_record, old_record_of, read_new_message, read_old_message, read_sync, message_with}
+use Rattle.lvs_model.specs.Fields.{word_at}
+use Rattle.lvs_model.specs.Messages.{record_bytes, header_bytes, old_record_bytes, old_header_bytes, HasOldFlags}
+use Rattle.lvs_model.specs.MessageReading.{◌>>=◌, RecordRead, records_by, read_record, record_of, record_size, record_version, is_v6, read_old_record, old_record_of, read_sync, message_with}
 use Rattle.lvs_sync_codec.specs.RoundTrip.{NewReadsBack, OldReadsBack, without_mark}
 use Rattle.lvs_sync_codec.proofs.OneByOne.{Records, ok_record, ok_records}
 

@@ -1,5 +1,5 @@
 -- What a loop that appends the bytes of each record has still to append.
-use Rattle.std.proofs.Common.{◌≡◌, ◌∙◌, ℕ, ◌+◌, ◌<◌, List, [], ◌∷◌, ◌++◌, length, drop, flat_map, slice_index_or, append_assoc, add-one, drop-cons}
+use Rattle.std.proofs.Common.{◌≡◌, ◌∙◌, ℕ, ◌+◌, ◌<◌, List, ◌∷◌, ◌++◌, length, drop, flat_map, slice_index_or, append_assoc, add-one, drop-cons}
 use Rattle.lvs_types.specs.declared.sync.SyncRecord.{SyncRecord}
 
 -- the record that stands for none past a list's end

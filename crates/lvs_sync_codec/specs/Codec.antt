@@ -1,6 +1,5 @@
 -- What a reader of sync messages refuses, and the rule of each version.
 use Rattle.std.specs.Prelude.{◌≡◌, ℕ, List, Result, Err}
-use Rattle.lvs_types.specs.declared.sync.Message.{Message}
 use Rattle.lvs_types.specs.declared.sync.BadSync.{BadSync}
 use Rattle.lvs_sync_codec.specs.declared.refused.MessageRefused.{MessageRefused}
 use Rattle.lvs_sync_codec.specs.declared.refused.MessageRefused.TheVariants.{Bad, NoMemory}

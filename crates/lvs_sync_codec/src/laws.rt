@@ -8,5 +8,4 @@ ghost use Rattle.lvs_sync_codec.specs.RoundTrip.{NewReadsBack, OldReadsBack};
 pub fn written_is_read_again()
     ensures version_1 { (id : ℕ) (records : List SyncRecord) → NewReadsBack id records }
     ensures version_0 { (id : ℕ) (records : List SyncRecord) → OldReadsBack id records }
-{
-}
+{}

@@ -7,6 +7,8 @@ mod new_record;
 mod old_record;
 mod options;
 mod reading;
+#[cfg(test)]
+mod real_messages;
 mod refused;
 #[cfg(test)]
 mod tests;

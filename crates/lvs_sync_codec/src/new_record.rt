@@ -25,16 +25,27 @@ use crate::options::are_options;
 use lvs_types::{BadSync, SyncItem, SyncRecord};
 
 const CODE: usize = 1;
+
 const SIZE: usize = 2;
+
 const FLAGS: usize = 4;
+
 const STATE: usize = 8;
+
 const CPORT: usize = 10;
+
 const VPORT: usize = 12;
+
 const DPORT: usize = 14;
+
 const MARK: usize = 16;
+
 const TIMEOUT: usize = 20;
+
 const CADDR: usize = 24;
+
 const VADDR: usize = 28;
+
 const DADDR: usize = 32;
 
 /// Type, protocol and size: what an IPv6 record must have.

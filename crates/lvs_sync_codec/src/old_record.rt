@@ -20,13 +20,21 @@ use crate::fields::{addr, rest_from, word};
 use lvs_types::{BadSync, SyncItem, SyncRecord};
 
 const CODE: usize = 1;
+
 const CPORT: usize = 2;
+
 const VPORT: usize = 4;
+
 const DPORT: usize = 6;
+
 const CADDR: usize = 8;
+
 const VADDR: usize = 12;
+
 const DADDR: usize = 16;
+
 const FLAGS: usize = 20;
+
 const STATE: usize = 22;
 
 /// A record.
@@ -48,7 +56,10 @@ pub(crate) fn read_short_record(bytes: &[u8]) -> Result<(SyncItem, &[u8]), BadSy
     if bytes.len() < FIELDS || bytes.len() < size_of_record(bytes) {
         return Err(BadSync::RecordShort);
     }
-    Ok((SyncItem::V4(fields(bytes)), rest_from(bytes, size_of_record(bytes))))
+    Ok((
+        SyncItem::V4(fields(bytes)),
+        rest_from(bytes, size_of_record(bytes)),
+    ))
 }
 
 fn size_of_record(bytes: &[u8]) -> usize

@@ -9,7 +9,8 @@
 //!            6 spare, 0
 //!            8 the records
 //! ```
-ghost use Rattle.std.specs.Prelude.{◌≡◌, ◌≤◌, length, MatchResult, Ok, Err};
+ghost use Rattle.std.specs.Prelude.{◌≡◌, ◌≤◌, ◌==◌, length, MatchResult, Ok, Err};
+ghost use Rattle.lvs_model.specs.Fields.{word_at};
 ghost use Rattle.lvs_model.specs.MessageReading.{records_by, read_new_message, read_old_message, read_sync};
 ghost use Rattle.lvs_sync_codec.specs.Codec.{reader, IsRefusal};
 
@@ -20,10 +21,15 @@ use lvs_types::{BadSync, Listed, Message, SyncItem};
 use std::alloc::Global;
 
 const NEW_HEADER: usize = 8;
+
 const NEW_COUNT: usize = 4;
+
 const NEW_VERSION: usize = 5;
+
 const NEW_SPARE: usize = 6;
+
 const OLD_HEADER: usize = 4;
+
 const OLD_COUNT: usize = 0;
 
 /// The sync id of either version.
@@ -59,10 +65,15 @@ fn read_new(alloc: Global, bytes: &[u8]) -> Result<Message, MessageRefused>
     if bytes[NEW_VERSION] != 1 || word(bytes, NEW_SPARE) != 0 {
         return Err(MessageRefused::Bad(BadSync::Version));
     }
-    if usize::from(word(bytes, SIZE)) != bytes.len() {
+    if !is_sized(bytes) {
         return Err(MessageRefused::Bad(BadSync::Size));
     }
-    let items = read_records(alloc, Version::One, bytes[NEW_COUNT], rest_from(bytes, NEW_HEADER))?;
+    let items = read_records(
+        alloc,
+        Version::One,
+        bytes[NEW_COUNT],
+        rest_from(bytes, NEW_HEADER),
+    )?;
     Ok(Message {
         sync_id: bytes[SYNC_ID],
         items,
@@ -75,14 +86,26 @@ fn read_old(alloc: Global, bytes: &[u8]) -> Result<Message, MessageRefused>
     if bytes.len() < OLD_HEADER {
         return Err(MessageRefused::Bad(BadSync::Short));
     }
-    if usize::from(word(bytes, SIZE)) != bytes.len() {
+    if !is_sized(bytes) {
         return Err(MessageRefused::Bad(BadSync::Size));
     }
-    let items = read_records(alloc, Version::Zero, bytes[OLD_COUNT], rest_from(bytes, OLD_HEADER))?;
+    let items = read_records(
+        alloc,
+        Version::Zero,
+        bytes[OLD_COUNT],
+        rest_from(bytes, OLD_HEADER),
+    )?;
     Ok(Message {
         sync_id: bytes[SYNC_ID],
         items,
     })
+}
+
+fn is_sized(bytes: &[u8]) -> bool
+    requires { 4 ≤ length bytes.now }
+    ensures { result ≡ (word_at bytes.now 2 == length bytes.now) }
+{
+    usize::from(word(bytes, SIZE)) == bytes.len()
 }
 
 /// So many records, and nothing after them.

@@ -2,7 +2,7 @@
 use crate::{Addr, DestId, Method, TemplateId};
 
 /// What a template is known by.
-#[derive(Clone, Copy, Debug, PartialEq, Eq, PartialOrd, Ord)]
+#[derive(Clone, Copy, Debug, PartialEq, Eq, PartialOrd, Ord, Hash)]
 pub struct TemplateKey {
     /// 6 or 17 for a service of an address, 0 for a mark service.
     pub code: u8,

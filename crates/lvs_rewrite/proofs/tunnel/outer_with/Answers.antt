@@ -1,4 +1,4 @@
-use Rattle.std.proofs.Common.{rules, ◌≡◌, refl}
+use Rattle.std.proofs.Common.{refl}
 use Rattle.lvs_rewrite.proofs.tunnel.outer_with.Goals as goal
 
 -- src/tunnel.rt:31:1

@@ -1,6 +1,6 @@
 use Rattle.lvs_sched_more.proofs.FreeSlots.{found_behind, found_before}
 use Rattle.lvs_sched_more.proofs.slots.first_free.Goals as goal
-use Rattle.std.proofs.Common.{rules, sym}
+use Rattle.std.proofs.Common.{rules}
 
 pub returns-in-Some-clause-value : goal.returns-in-Some-clause-value
 returns-in-Some-clause-value c = found_behind c.args.slots.now c.args.start c.in-Some.steps c.requires.number c.requires.start (search rules)

@@ -1,7 +1,7 @@
-use Rattle.std.proofs.Common.{rules, ◌≡◌, ◌∙◌, ap, ◌++◌, [], ◌∷◌, arith}
+use Rattle.std.proofs.Common.{rules}
 use Rattle.lvs_model.specs.MessageReading.{records_by}
 use Rattle.lvs_sync_codec.specs.Codec.{reader}
-use Rattle.lvs_sync_codec.proofs.OneByOne.{Records, onto, err_records, next_record, bad_record}
+use Rattle.lvs_sync_codec.proofs.OneByOne.{next_record, bad_record}
 use Rattle.lvs_sync_codec.proofs.reading.read_records.Goals as goal
 
 pub returns-in_err-item : goal.returns-in_err-item

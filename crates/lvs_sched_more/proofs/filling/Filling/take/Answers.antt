@@ -1,5 +1,4 @@
-use Rattle.std.proofs.Common.{rules, arith, ◌≡◌, ◌<◌, length, length-set}
-use Rattle.std.proofs.lemmas.Grind.{common_steps}
+use Rattle.std.proofs.Common.{rules, arith, length-set}
 use Rattle.lvs_sched_more.proofs.FreeSlots.{first_is_free, taken_free, taken_own}
 use Rattle.lvs_sched_more.proofs.filling.Filling.take.Goals as goal
 

@@ -1,0 +1,6 @@
+pub mod Keys
+pub mod Lists
+pub mod Tied
+pub mod Store
+pub mod Changes
+pub mod Leaving

@@ -1,0 +1,11 @@
+use Rattle.std.proofs.Common.{rules}
+use Rattle.std.proofs.lemmas.Iterator.{items_from_collect, YieldsList-from_map}
+use Rattle.std.proofs.lemmas.Iterator.Consumers.{YieldsList-at, YieldsList-from_rest}
+use Rattle.lvs_templates.specs.Maps.{rows_of}
+use Rattle.lvs_templates.specs.declared.row.TemplateRow.{TemplateRow}
+use Rattle.lvs_templates.proofs.maps.Maps.all.Goals as goal
+
+pub returns : goal.returns
+returns c =
+    rw c.in_ok-all.was at (items_from_collect c.collect.result c.collect.ensures.ran
+    (YieldsList-from_map _ (λ (row : TemplateRow). row.template) (YieldsList-at c.map.ensures.source (YieldsList-from_rest (rows_of c.args.self.now) c.values.ensures.rest)) c.map.ensures.closure (λ x r q k. search rules)))

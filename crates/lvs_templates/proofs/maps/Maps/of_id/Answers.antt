@@ -1,0 +1,8 @@
+use Rattle.std.proofs.Common.{◌∙◌}
+use Rattle.lvs_templates.proofs.Store.{find_id}
+use Rattle.lvs_templates.proofs.Changes.{store_same}
+use Rattle.lvs_templates.proofs.Leaving.{taken_out}
+use Rattle.lvs_templates.proofs.maps.Maps.of_id.Goals as goal
+
+pub returns : goal.returns
+returns c = c.get.ensures.value ∙ find_id c.args.id c.args.self.now.rows.entries c.args.self.now.ids.entries c.requires

@@ -1,0 +1,144 @@
+//! The store of templates.
+ghost use Rattle.std.specs.Prelude.{◌≡◌, ◌<◌, ◌+◌, ◌-◌, ◌^◌, List, [], IfOk, IfSome, OnOk, OnErr};
+ghost use Rattle.std.specs.Option.{option_map, option_copied};
+ghost use Rattle.std.specs.List.{find, filter, count_by};
+ghost use Rattle.lvs_templates.specs.Rows.{has_key, has_id, of_key, of_id, put, without, recount, leaves, is_renewed, after_due, templates_of, IsRising};
+
+use crate::due::Due;
+use crate::maps::Maps;
+use crate::row::TemplateRow;
+use lvs_types::{NoMemory, Template, TemplateId, TemplateKey};
+use std::alloc::Global;
+use std::marker::Model;
+
+/// Templates, each key and each id once, each template with its count of controls.
+#[derive(Debug, Drop)]
+pub struct Templates {
+    maps: Maps,
+}
+
+impl Model for Templates {
+    ghost use Rattle.std.specs.Prelude.{List};
+    ghost use Rattle.lvs_templates.specs.declared.row.TemplateRow.{TemplateRow};
+    ghost use Rattle.lvs_templates.specs.Maps.{rows_of, IsWhole};
+
+    ghost Value = { List TemplateRow };
+
+    ghost view = { λ t. rows_of t.maps };
+
+    ghost invariant = { λ t. IsWhole t.maps };
+}
+
+impl Templates {
+    /// No templates.
+    pub fn new(alloc: Global) -> Result<Templates, NoMemory>
+        ensures { IfOk result (λ t. t ≡ []) }
+    {
+        Ok(Templates {
+            maps: Maps::new(alloc),
+        })
+    }
+
+    /// The template of a key.
+    pub fn find(&self, key: &TemplateKey) -> Option<&Template>
+        ensures { option_copied result ≡ of_key key.now self.now }
+    {
+        match self.maps.of_key(key) {
+            Some(row) => Some(&row.template),
+            None => None,
+        }
+    }
+
+    /// The template of an id.
+    pub fn get(&self, id: TemplateId) -> Option<&Template>
+        ensures { option_copied result ≡ of_id id self.now }
+    {
+        match self.maps.of_id(id) {
+            Some(row) => Some(&row.template),
+            None => None,
+        }
+    }
+
+    /// Puts a template in the place of the one of its key, which it hands back. The count of
+    /// controls stays where that one has the same id, and else begins at 0.
+    pub fn put(&mut self, template: Template) -> Result<Option<Template>, NoMemory>
+        requires free { IfSome (find (has_id template.id) self.old) (λ row. row.template.key ≡ template.key) }
+        ensures before { IfOk result (λ old. old ≡ of_key template.key self.old) }
+        ensures rows { OnOk result (self.new ≡ put template self.old) }
+        ensures err { OnErr result (self.new ≡ self.old) }
+    {
+        let Some(&old) = self.maps.of_key(&template.key) else {
+            self.maps.insert(TemplateRow {
+                template,
+                controls: 0,
+            })?;
+            return Ok(None);
+        };
+        if template.id == old.template.id {
+            self.maps.overwrite(TemplateRow {
+                template,
+                controls: old.controls,
+            });
+        } else {
+            let row = TemplateRow {
+                template,
+                controls: 0,
+            };
+            self.maps.replace(old.template.id, row)?;
+        }
+        Ok(Some(old.template))
+    }
+
+    /// Takes out the template of a key.
+    pub fn take(&mut self, key: &TemplateKey) -> Option<Template>
+        ensures taken { result ≡ of_key key.now self.old }
+        ensures rows { self.new ≡ without key.now self.old }
+    {
+        match self.maps.leave(key) {
+            Some(row) => Some(row.template),
+            None => None,
+        }
+    }
+
+    /// One more entry was made by the template of an id. An id that is gone changes nothing.
+    pub fn control(&mut self, id: TemplateId)
+        requires room { IfSome (find (has_id id) self.old) (λ row. row.controls < 2 ^ 63) }
+        ensures { self.new ≡ recount (λ n. n + 1) id self.old }
+    {
+        self.maps.raise(id);
+    }
+
+    /// One of the entries that the template of an id made is gone. An id that is gone changes
+    /// nothing.
+    pub fn uncontrol(&mut self, id: TemplateId)
+        requires some { IfSome (find (has_id id) self.old) (λ row. 0 < row.controls) }
+        ensures { self.new ≡ recount (λ n. n - 1) id self.old }
+    {
+        self.maps.lower(id);
+    }
+
+    /// Takes out the templates that are due at `now`, in seconds, and have no controls, and sets
+    /// the deadline of the due ones that have some to 60 seconds from now.
+    pub fn due(&mut self, alloc: Global, now: u64) -> Result<Due, NoMemory>
+        requires { now < 2 ^ 63 }
+        ensures gone { IfOk result (λ due. due.gone.items ≡ templates_of (filter (leaves now) self.old)) }
+        ensures rising { IfOk result (λ due. IsRising due.gone.items) }
+        ensures renewed { IfOk result (λ due. due.renewed ≡ count_by (is_renewed now) self.old) }
+        ensures rows { OnOk result (self.new ≡ after_due now self.old) }
+        ensures err { OnErr result (self.new ≡ self.old) }
+    {
+        let gone = self.maps.leaving(alloc, now)?;
+        let renewed = self.maps.count_renewed(now);
+        self.maps.leave_all(&gone);
+        self.maps.renew(now);
+        Ok(Due { gone, renewed })
+    }
+
+    /// All templates, in order of id.
+    pub fn all(&self, alloc: Global) -> Result<Vec<Template>, NoMemory>
+        ensures templates { IfOk result (λ all. all.items ≡ templates_of self.now) }
+        ensures rising { IfOk result (λ all. IsRising all.items) }
+    {
+        self.maps.all(alloc)
+    }
+}
