@@ -1,5 +1,5 @@
 -- One more book of a report.
-use Rattle.std.proofs.Common.{◌≡◌, ℕ, ◌+◌, ◌≤◌, ◌<◌, List, [], ◌∷◌, ◌++◌, length, take, Option, refl, sym, ◌∙◌, ap, subst, append_assoc, append-nil, length-append, arith}
+use Rattle.std.proofs.Common.{◌≡◌, ℕ, ◌+◌, ◌≤◌, List, [], ◌∷◌, ◌++◌, length, take, Option, refl, sym, ◌∙◌, ap, subst, append_assoc, append-nil, length-append, arith}
 use Rattle.std.proofs.Math.Seq.{take-length}
 use Rattle.std.proofs.lemmas.List.{take-append-le}
 use Rattle.std.specs.Io.KnownBytes.{Appends}
@@ -8,6 +8,9 @@ use Rattle.lvs_outside.proofs.Known.{appends_more}
 use Rattle.lvs_types.specs.declared.book.RoundBook.{RoundBook}
 use Rattle.lvs_model.specs.Report.{round_text, books_text}
 use Rattle.lvs_run.specs.Written.{AppendsPart, AppendsAllButLast}
+
+le_self : (n : ℕ) → n ≤ n
+le_self n = omega arith
 
 pub books_push : (books : List RoundBook) (book : RoundBook) → books_text (books ++ book ∷ []) ≡ books_text books ++ round_text book
 books_push [] book = append-nil (round_text book)
@@ -28,11 +31,11 @@ part_whole old new text all =
     (length text, omega arith, subst (λ (t : List ℕ). Appends old new t) (sym here) all)
 
 -- nothing of one more book
-pub part_without_last : (old new : Option (List ℕ)) (books : List RoundBook) (book : RoundBook) → Appends old new (books_text books) → AppendsPart old new (books_text (books ++ book ∷ []))
-part_without_last old new books book before =
-    let front : length (books_text books) ≤ length (books_text books) = omega arith in
-    let here : take (length (books_text books)) (books_text (books ++ book ∷ [])) ≡ books_text books =
-    ap (λ (t : List ℕ). take (length (books_text books)) t) (books_push books book) ∙ rw take-append-le (take-length (books_text books)) in
-    let longer : length (books_text (books ++ book ∷ [])) ≡ length (books_text books) + length (round_text book) =
-    ap (λ (t : List ℕ). length t) (books_push books book) ∙ length-append (books_text books) (round_text book) in
-    (length (books_text books), omega arith, subst (λ (t : List ℕ). Appends old new t) (sym here) before)
+pub part_without_last : (old mid new : Option (List ℕ)) (books : List RoundBook) (book : RoundBook) → Appends old mid (books_text books) → new ≡ mid → AppendsPart old new (books_text (books ++ book ∷ []))
+part_without_last old mid new books book before same =
+    let text : List ℕ = books_text books in
+    let here : take (length text) (books_text (books ++ book ∷ [])) ≡ text =
+    ap (λ (t : List ℕ). take (length text) t) (books_push books book) ∙ take-append-le (length text) text (round_text book) (le_self (length text)) ∙ take-length text in
+    let longer : length (books_text (books ++ book ∷ [])) ≡ length text + length (round_text book) =
+    ap (λ (t : List ℕ). length t) (books_push books book) ∙ length-append text (round_text book) in
+    (length text, omega (arith, longer), subst (λ (t : List ℕ). Appends old new t) (sym here) (subst (λ (o : Option (List ℕ)). Appends old o text) (sym same) before))

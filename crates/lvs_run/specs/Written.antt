@@ -1,5 +1,5 @@
 -- What is written of the report of some rounds.
-use Rattle.std.specs.Prelude.{◌≡◌, ◌≢◌, ℕ, ◌<◌, ◌≤◌, List, [], ◌∷◌, ◌++◌, length, take, Option}
+use Rattle.std.specs.Prelude.{◌≡◌, ℕ, ◌<◌, ◌≤◌, List, [], ◌∷◌, ◌++◌, length, take, Option}
 use Rattle.std.specs.Io.KnownBytes.{Appends}
 use Rattle.lvs_outside.specs.Faults.{Rose, AppendsFront}
 use Rattle.lvs_types.specs.declared.book.RoundBook.{RoundBook}

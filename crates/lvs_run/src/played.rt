@@ -13,14 +13,8 @@ use crate::round::play_round;
 use crate::written::{Wrote, write_round};
 use lvs_outside::Sink;
 use lvs_script::{ScriptRefused, read_script};
-use lvs_types::{Round, RoundBook, Script, Status};
+use lvs_types::{Round, Script, Status};
 use std::alloc::Global;
-
-fn ended(status: Status, rounds: Vec<RoundBook>) -> Done
-    ensures { result ≡ record { status = status; rounds = rounds } }
-{
-    Done { status, rounds }
-}
 
 /// Plays the rounds one after the other.
 fn play_rounds<K: Sink>(
@@ -40,20 +34,35 @@ fn play_rounds<K: Sink>(
     let mut books = Vec::new(alloc);
     for round in rounds {
         if books.reserve(1).is_err() {
-            return ended(Status::NoMemory, books);
+            return Done {
+                status: Status::NoMemory,
+                rounds: books,
+            };
         }
         let Ok(book) = play_round(alloc, director, books.len() as u64, round) else {
-            return ended(Status::NoMemory, books);
+            return Done {
+                status: Status::NoMemory,
+                rounds: books,
+            };
         };
         let wrote = write_round(alloc, &book, sink);
         books.push_reserved(book);
         match wrote {
             Wrote::All => {}
-            Wrote::Front => return ended(Status::WriteFault, books),
-            Wrote::NoMemory => return ended(Status::NoMemory, books),
+            Wrote::Front => return Done {
+                status: Status::WriteFault,
+                rounds: books,
+            },
+            Wrote::NoMemory => return Done {
+                status: Status::NoMemory,
+                rounds: books,
+            },
         }
     }
-    ended(Status::Finished, books)
+    Done {
+        status: Status::Finished,
+        rounds: books,
+    }
 }
 
 /// Plays the script that the bytes spell, from its start.
