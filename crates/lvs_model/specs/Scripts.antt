@@ -38,16 +38,16 @@ max_items = 1048576
 
 -- the first word of each kind of line
 abbrev pub line_name : LineName → List ℕ
-line_name name.Local    = codes "local"
-line_name name.At       = codes "at"
-line_name name.Ipvs     = codes "ipvs"
-line_name name.Sysctl   = codes "sysctl"
+line_name name.Local = codes "local"
+line_name name.At = codes "at"
+line_name name.Ipvs = codes "ipvs"
+line_name name.Sysctl = codes "sysctl"
 line_name name.Incoming = codes "in"
 line_name name.Outgoing = codes "out"
-line_name name.Sync     = codes "sync"
-line_name name.List     = codes "list"
-line_name name.Conns    = codes "conns"
-line_name name.Save     = codes "save"
+line_name name.Sync = codes "sync"
+line_name name.List = codes "list"
+line_name name.Conns = codes "conns"
+line_name name.Save = codes "save"
 
 abbrev pub line_names : List LineName
 line_names = name.Local ∷ name.At ∷ name.Ipvs ∷ name.Sysctl ∷ name.Incoming ∷ name.Outgoing ∷ name.Sync ∷ name.List ∷ name.Conns ∷ name.Save ∷ []

@@ -6,7 +6,8 @@ use std::test::Fail;
 #[test]
 fn reads_a_web_service(rt: HostRuntime) -> Result<(), Fail> {
     let alloc = rt.alloc();
-    let text = "# a web service\r\nlocal 10.0.0.254\n\nat 0000000007\nipvs -A -t 10.0.0.1:80 -s wlc\nipvs -a\t-t 10.0.0.1:80 -r 192.168.0.1:8080 -m -w 2\r\nsysctl sloppy_tcp 1\n in 4294967295 45Ab\nout 4500\nsync 00\nlist\nconns\nsave\nipvs -Ln\nat 7";
+    let text =
+        "# a web service\r\nlocal 10.0.0.254\n\nat 0000000007\nipvs -A -t 10.0.0.1:80 -s wlc\nipvs -a\t-t 10.0.0.1:80 -r 192.168.0.1:8080 -m -w 2\r\nsysctl sloppy_tcp 1\n in 4294967295 45Ab\nout 4500\nsync 00\nlist\nconns\nsave\nipvs -Ln\nat 7";
     let script = read_script(alloc, text.as_bytes())?;
     assert_eq!(rt; script.local.number, 0x0A00_00FE);
     let rounds = script.rounds.as_slice();
