@@ -1,3 +1,4 @@
 pub mod Splits
 pub mod LineLemmas
 pub mod CountedWords
+pub mod Numbered
