@@ -44,3 +44,5 @@ pub mod AdminWords
 pub mod AdminLines
 pub mod SysctlWords
 pub mod Counted
+pub mod Lines
+pub mod Scripts

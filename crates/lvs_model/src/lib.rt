@@ -4,6 +4,7 @@
 pub mod admin;
 pub mod laws;
 mod numbers;
+pub mod script;
 pub mod worked_examples;
 
 pub use numbers::{bucket_of, mix, worker_of};

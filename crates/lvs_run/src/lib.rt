@@ -4,6 +4,7 @@
 mod director;
 mod done;
 mod input;
+mod playable;
 mod played;
 mod program_words;
 mod round;

@@ -9,11 +9,12 @@ ghost use Rattle.lvs_run.specs.Rounds.{IsAfterInput};
 use crate::Done;
 use crate::director::Director;
 use crate::done::without_rounds;
+use crate::playable::is_playable;
 use crate::round::play_round;
 use crate::written::{Wrote, write_round};
 use lvs_outside::Sink;
 use lvs_script::{ScriptRefused, read_script};
-use lvs_types::{Round, Script, Status};
+use lvs_types::{Round, Script, ScriptCause, Status};
 use std::alloc::Global;
 
 /// Plays the rounds one after the other.
@@ -65,6 +66,12 @@ fn play_rounds<K: Sink>(
     }
 }
 
+/// A script that the director can't play so far.
+const UNKNOWN: Status = Status::ScriptRefused {
+    line: 0,
+    cause: ScriptCause::UnknownLine,
+};
+
 /// Plays the script that the bytes spell, from its start.
 pub(crate) fn play_bytes<K: Sink>(alloc: Global, bytes: &[u8], sink: &mut K) -> Done
     ensures finished { result.status ≡ Status.Finished → Appends (K.written sink.old) (K.written sink.new) (books_text result.rounds.items) }
@@ -76,7 +83,8 @@ pub(crate) fn play_bytes<K: Sink>(alloc: Global, bytes: &[u8], sink: &mut K) -> 
     ensures after { IsAfterInput result.status }
 {
     match read_script(alloc, bytes) {
-        Ok(script) => play_script(alloc, &script, sink),
+        Ok(script) if is_playable(&script) => play_script(alloc, &script, sink),
+        Ok(_) => without_rounds(alloc, UNKNOWN),
         Err(ScriptRefused::Refused { line, cause }) => {
             without_rounds(alloc, Status::ScriptRefused { line, cause })
         }

@@ -98,6 +98,14 @@ fn words_and_scripts_are_refused(rt: HostRuntime) -> Result<(), Fail> {
     assert_eq!(rt;
         refused.status,
         Status::ScriptRefused {
+            line: 1,
+            cause: ScriptCause::UnknownLine,
+        }
+    );
+    let unplayed = run(alloc, &["serial"], b"at 0\nipvs -C\n", &[], &[])?;
+    assert_eq!(rt;
+        unplayed.status,
+        Status::ScriptRefused {
             line: 0,
             cause: ScriptCause::UnknownLine,
         }

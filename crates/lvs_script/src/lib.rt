@@ -1,15 +1,18 @@
 //! Reads scripts, and says what their rounds are to do.
 #![tactic(auto)]
 
-mod cursor;
-mod lines;
-mod refused;
+mod counting;
+mod cutting;
+mod kinds;
+mod reader;
+mod round_lines;
+mod script;
 mod serial;
-mod words;
-
-pub use lines::read_script;
-pub use refused::ScriptRefused;
-pub use serial::serial_items;
-
+mod stop;
 #[cfg(test)]
 mod tests;
+mod values;
+
+pub use script::read_script;
+pub use serial::serial_items;
+pub use stop::ScriptRefused;

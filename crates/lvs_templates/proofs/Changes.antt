@@ -1,11 +1,10 @@
 -- A store after each change is a store, with the rows that the change says.
-use Rattle.std.proofs.Common.{◌≡◌, ℕ, ◌<◌, ◌⊎◌, inl, inr, Bool, true, false, not, cond, nat_lt, ◌==◌, refl, sym, ap, ◌∙◌, subst, arith, eq-eqb, eqb-true, List, [], ◌∷◌, Option, Some, None, IfSome, IsSomeAnd, IsSome, map}
-use Rattle.std.specs.Ordering.{nat_cmp, is_eq, eq_by_cmp}
+use Rattle.std.proofs.Common.{◌≡◌, ℕ, Bool, true, false, cond, ◌==◌, refl, sym, ap, ◌∙◌, subst, eq-eqb, eqb-true, List, Option, Some, None, IfSome, IsSomeAnd, IsSome, map}
+use Rattle.std.specs.Ordering.{nat_cmp, is_eq}
 use Rattle.std.specs.BTreeMap.{is_at, insert_entry}
-use Rattle.std.specs.Cmp.{IsEquivalence}
-use Rattle.std.specs.List.{find, filter, AllByRecursion}
+use Rattle.std.specs.List.{find}
 use Rattle.std.specs.List.Sorted.{IsStrictlySortedBy}
-use Rattle.std.specs.Map.{values_of, keys_of, lookup, remove_entry, set_value}
+use Rattle.std.specs.Map.{values_of, keys_of, remove_entry, set_value}
 use Rattle.std.specs.Option.{option_map}
 use borrow.Author.Tests.{ne_eqb}
 use Rattle.std.proofs.lemmas.Cmp.{nat_cmp_total, eq_by_cmp_equiv}
@@ -15,8 +14,8 @@ use Rattle.lvs_types.specs.declared.template.TemplateKey.{TemplateKey}
 use Rattle.lvs_model.specs.Same.{template_id_eq}
 use Rattle.lvs_templates.specs.declared.row.TemplateRow.{TemplateRow}
 use Rattle.lvs_templates.specs.Rows.{has_key, has_id, insert_row, without, replace_row, recount}
-use Rattle.lvs_templates.specs.Maps.{key_same, row_at, id_at, row_put, id_put, AreTied, IsStore}
-use Rattle.lvs_templates.proofs.Keys.{nat_at_is, nat_at_own, key_at_own}
+use Rattle.lvs_templates.specs.Maps.{key_same, row_at, id_at, row_put, id_put, IsStore}
+use Rattle.lvs_templates.proofs.Keys.{nat_at_is}
 use Rattle.lvs_templates.proofs.Lists.{map-values, map-missed, keys-map, lookup-map}
 use Rattle.lvs_templates.proofs.Tied.{tied_same, tied_insert, tied_over, tied_leave, tied_each, id_here}
 use Rattle.lvs_templates.proofs.Store.{once_in_order, agree_id, find_id, is_free, leads_nowhere, leads_to, rows_insert, rows_replace}

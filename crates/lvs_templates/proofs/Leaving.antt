@@ -1,5 +1,5 @@
 -- What is left once the due ones are taken out by their keys.
-use Rattle.std.proofs.Common.{◌≡◌, ℕ, ◌+◌, Bool, true, false, not, cond, refl, sym, ap, ◌∙◌, subst, List, [], ◌∷◌, Option, Some, None, map}
+use Rattle.std.proofs.Common.{◌≡◌, ℕ, ◌+◌, Bool, true, false, not, cond, refl, sym, ap, ◌∙◌, subst, List, [], ◌∷◌, Some, map}
 use Rattle.std.specs.declared.cmp.Ordering.TheVariants.{Less}
 use Rattle.std.specs.Ordering.{nat_cmp, is_eq}
 use Rattle.std.specs.List.{filter, AllByRecursion}
@@ -10,7 +10,7 @@ use Rattle.lvs_types.specs.declared.template.TemplateKey.{TemplateKey}
 use Rattle.lvs_types.specs.declared.template.Template.{Template}
 use Rattle.lvs_model.specs.Same.{template_key_eq}
 use Rattle.lvs_templates.specs.declared.row.TemplateRow.{TemplateRow}
-use Rattle.lvs_templates.specs.Rows.{has_key, without, without_all, templates_of, is_renewed, renew, IsRising}
+use Rattle.lvs_templates.specs.Rows.{without, without_all, templates_of, is_renewed, renew, IsRising}
 use Rattle.lvs_templates.specs.Maps.{row_at, id_at, IsStore}
 use Rattle.lvs_templates.proofs.Keys.{nat_at_own, key_eq_is, key_eq_own}
 use Rattle.lvs_templates.proofs.Lists.{all_weaken, all_join, all_values, all_filter}

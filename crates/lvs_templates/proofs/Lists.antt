@@ -1,5 +1,5 @@
 -- The values of entries, by tests that agree with those of the keys.
-use Rattle.std.proofs.Common.{◌≡◌, ℕ, ◌<◌, Bool, true, false, not, cond, nat_lt, ◌==◌, refl, sym, ap, ◌∙◌, subst, arith, List, [], ◌∷◌, Option, Some, None, map}
+use Rattle.std.proofs.Common.{◌≡◌, Bool, true, false, not, cond, refl, sym, ap, ◌∙◌, List, [], ◌∷◌, Option, Some, None, map}
 use Rattle.std.specs.List.{find, filter, AllByRecursion}
 use Rattle.std.specs.Map.{values_of, keys_of, lookup, remove_entry, set_value}
 use Rattle.std.specs.Option.{option_map}

@@ -1,12 +1,11 @@
 -- A store's rows, read by id and by key.
-use Rattle.std.proofs.Common.{◌≡◌, ℕ, ◌<◌, ◌⊎◌, inl, inr, Bool, true, false, not, cond, nat_lt, ◌==◌, refl, sym, ap, ◌∙◌, subst, arith, List, [], ◌∷◌, Option, Some, None, IfSome, map}
-use Rattle.std.specs.declared.cmp.Ordering.{Ordering}
-use Rattle.std.specs.declared.cmp.Ordering.TheVariants.{Less, Equal, Greater}
+use Rattle.std.proofs.Common.{◌≡◌, ℕ, Bool, true, false, not, cond, nat_lt, ◌==◌, refl, sym, ap, ◌∙◌, subst, arith, List, [], ◌∷◌, Option, Some, None, IfSome, map}
+use Rattle.std.specs.declared.cmp.Ordering.TheVariants.{Less}
 use Rattle.std.specs.Ordering.{nat_cmp, is_eq}
 use Rattle.std.specs.BTreeMap.{is_at, insert_entry}
 use Rattle.std.specs.List.{find, filter, AllByRecursion}
 use Rattle.std.specs.List.Sorted.{IsStrictlySortedBy}
-use Rattle.std.specs.Map.{values_of, keys_of, lookup, remove_entry, set_value}
+use Rattle.std.specs.Map.{values_of, keys_of, remove_entry}
 use Rattle.std.proofs.lemmas.Bool.Decides.{nat_tests}
 use Rattle.std.proofs.lemmas.Map.{none_passes_from_lookup}
 use Rattle.lvs_types.specs.declared.addr.TemplateId.{TemplateId}
@@ -14,9 +13,9 @@ use Rattle.lvs_types.specs.declared.template.TemplateKey.{TemplateKey}
 use Rattle.lvs_model.specs.Same.{template_key_eq, template_id_eq}
 use Rattle.lvs_templates.specs.declared.row.TemplateRow.{TemplateRow}
 use Rattle.lvs_templates.specs.Rows.{has_key, has_id, insert_row, without}
-use Rattle.lvs_templates.specs.Maps.{key_same, row_at, id_at, AreTied, IsStore}
-use Rattle.lvs_templates.proofs.Keys.{nat_at, nat_at_is, nat_at_own, key_at, key_at_is, key_at_own, key_eq_is, key_eq_own}
-use Rattle.lvs_templates.proofs.Lists.{all_weaken, all_join, all_values, all_filter, Once, Agree, find-values, filter-values}
+use Rattle.lvs_templates.specs.Maps.{row_at, id_at, IsStore}
+use Rattle.lvs_templates.proofs.Keys.{nat_at, nat_at_is, nat_at_own, key_eq_is, key_eq_own}
+use Rattle.lvs_templates.proofs.Lists.{all_weaken, all_join, all_filter, Once, Agree, find-values, filter-values}
 
 -- ---- numbers in order
 

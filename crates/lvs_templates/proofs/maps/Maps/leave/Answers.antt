@@ -1,4 +1,4 @@
-use Rattle.std.proofs.Common.{◌∙◌, ◌≡◌, ℕ, Option, Some, None, sym, ap}
+use Rattle.std.proofs.Common.{◌∙◌, ◌≡◌, Some, None, sym, ap}
 use Rattle.std.specs.Map.{values_of}
 use Rattle.lvs_templates.specs.Maps.{id_at}
 use Rattle.lvs_templates.proofs.Store.{find_key, no_key, without_none, without_one}

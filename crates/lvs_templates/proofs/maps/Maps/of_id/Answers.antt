@@ -1,7 +1,5 @@
 use Rattle.std.proofs.Common.{◌∙◌}
 use Rattle.lvs_templates.proofs.Store.{find_id}
-use Rattle.lvs_templates.proofs.Changes.{store_same}
-use Rattle.lvs_templates.proofs.Leaving.{taken_out}
 use Rattle.lvs_templates.proofs.maps.Maps.of_id.Goals as goal
 
 pub returns : goal.returns

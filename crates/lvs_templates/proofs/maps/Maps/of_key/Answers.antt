@@ -1,4 +1,4 @@
-use Rattle.std.proofs.Common.{◌∙◌, ◌≡◌, ℕ, Option, Some, None, sym}
+use Rattle.std.proofs.Common.{◌∙◌, ◌≡◌, Some, None, sym}
 use Rattle.lvs_templates.specs.Maps.{id_at}
 use Rattle.lvs_templates.proofs.Store.{find_key, no_key}
 use Rattle.lvs_templates.proofs.maps.Maps.of_key.Goals as goal
