@@ -7,11 +7,11 @@ use lvs_types::{
 use std::alloc::Global;
 use std::test::Fail;
 
-fn bytes(alloc: Global, text: &[u8]) -> Result<Bytes, NoMemory> {
+fn copied(alloc: Global, text: &[u8]) -> Result<Bytes, NoMemory> {
     Ok(Bytes::copied(alloc, text)?)
 }
 
-fn noted(number: u64, reply: Reply) -> Noted {
+fn act_with(number: u64, reply: Reply) -> Noted {
     Noted {
         actor: 3,
         number,
@@ -52,14 +52,14 @@ fn packets(alloc: Global) -> Result<Vec<Reply>, NoMemory> {
         replies.push(Reply::Forward {
             method,
             to,
-            bytes: bytes(alloc, &[0x45, 0x00, 0xff])?,
+            bytes: copied(alloc, &[0x45, 0x00, 0xff])?,
         })?;
     }
-    replies.push(Reply::Outward(bytes(alloc, &[0xa0])?))?;
+    replies.push(Reply::Outward(copied(alloc, &[0xa0])?))?;
     replies.push(Reply::Sent(Listed::new(alloc)))?;
     let mut messages = Vec::new(alloc);
-    messages.push(bytes(alloc, &[1])?)?;
-    messages.push(bytes(alloc, &[2, 3])?)?;
+    messages.push(copied(alloc, &[1])?)?;
+    messages.push(copied(alloc, &[2, 3])?)?;
     replies.push(Reply::Sent(Listed::from_vec(messages)))?;
     Ok(replies)
 }
@@ -118,7 +118,7 @@ fn printed(
 ) -> Result<Bytes, NoMemory> {
     let mut acts = Vec::new(alloc);
     for reply in replies {
-        acts.push(noted(7, reply))?;
+        acts.push(act_with(7, reply))?;
     }
     let book = RoundBook {
         number: 2,
@@ -170,23 +170,23 @@ fn listings_end_with_end(rt: HostRuntime) -> Result<(), Fail> {
     let mut shown = Vec::new(alloc);
     shown.push(ShownText {
         kind: Shown::List,
-        text: bytes(alloc, b"x\n")?,
+        text: copied(alloc, b"x\n")?,
     })?;
     shown.push(ShownText {
         kind: Shown::Conns,
-        text: bytes(alloc, b"")?,
+        text: copied(alloc, b"")?,
     })?;
     shown.push(ShownText {
         kind: Shown::Save,
-        text: bytes(alloc, b"y\nz\n")?,
+        text: copied(alloc, b"y\nz\n")?,
     })?;
     shown.push(ShownText {
-        kind: Shown::IcmpIn(bytes(alloc, &[0x45])?),
-        text: bytes(alloc, b"pass\n")?,
+        kind: Shown::IcmpIn(copied(alloc, &[0x45])?),
+        text: copied(alloc, b"pass\n")?,
     })?;
     shown.push(ShownText {
-        kind: Shown::IcmpOut(bytes(alloc, &[0x46])?),
-        text: bytes(alloc, b"pass\n")?,
+        kind: Shown::IcmpOut(copied(alloc, &[0x46])?),
+        text: copied(alloc, b"pass\n")?,
     })?;
     let text = printed(alloc, Vec::new(alloc), Listed::from_vec(shown))?;
     assert_eq!(rt;

@@ -15,19 +15,19 @@ const REPORT: &[u8] =
 
 /// What a run gave: its status, how many rounds it had, and what it wrote.
 #[derive(Drop)]
-struct Run {
+struct Outcome {
     status: Status,
     rounds: usize,
     text: Vec<u8>,
 }
 
-fn run(
+fn served(
     alloc: Global,
     words: &[&str],
     script: &[u8],
     read_fails: &[u64],
     write_fails: &[u64],
-) -> Result<Run, NoMemory> {
+) -> Result<Outcome, NoMemory> {
     let mut list = Vec::new(alloc);
     for word in words {
         list.push(String::from_str(alloc, word)?)?;
@@ -36,7 +36,7 @@ fn run(
     let mut sink = MemSink::new(alloc, 7, 1000, write_fails.to_vec(alloc)?)?;
     let done = serve_serial(alloc, &list, &mut source, &mut sink);
     let text = sink.bytes().to_vec(alloc)?;
-    Ok(Run {
+    Ok(Outcome {
         status: done.status,
         rounds: done.rounds.len(),
         text,
@@ -45,7 +45,7 @@ fn run(
 
 #[test]
 fn the_empty_input_has_no_rounds(rt: HostRuntime) -> Result<(), Fail> {
-    let run = run(rt.alloc(), &["serial"], b"", &[], &[])?;
+    let run = served(rt.alloc(), &["serial"], b"", &[], &[])?;
     assert_eq!(rt; run.status, Status::Finished);
     assert_eq!(rt; run.rounds, 0);
     assert_eq!(rt; run.text.len(), 0);
@@ -54,7 +54,7 @@ fn the_empty_input_has_no_rounds(rt: HostRuntime) -> Result<(), Fail> {
 
 #[test]
 fn three_packets_go_round_two_servers(rt: HostRuntime) -> Result<(), Fail> {
-    let run = run(rt.alloc(), &["serial"], SCRIPT, &[], &[])?;
+    let run = served(rt.alloc(), &["serial"], SCRIPT, &[], &[])?;
     assert_eq!(rt; run.status, Status::Finished);
     assert_eq!(rt; run.rounds, 1);
     assert_eq!(rt; run.text.as_slice(), REPORT);
@@ -63,7 +63,7 @@ fn three_packets_go_round_two_servers(rt: HostRuntime) -> Result<(), Fail> {
 
 #[test]
 fn a_failing_source_leaves_nothing(rt: HostRuntime) -> Result<(), Fail> {
-    let run = run(rt.alloc(), &["serial"], SCRIPT, &[1], &[])?;
+    let run = served(rt.alloc(), &["serial"], SCRIPT, &[1], &[])?;
     assert_eq!(rt; run.status, Status::ReadFault);
     assert_eq!(rt; run.rounds, 0);
     assert_eq!(rt; run.text.len(), 0);
@@ -72,7 +72,7 @@ fn a_failing_source_leaves_nothing(rt: HostRuntime) -> Result<(), Fail> {
 
 #[test]
 fn a_failing_sink_keeps_the_round(rt: HostRuntime) -> Result<(), Fail> {
-    let run = run(rt.alloc(), &["serial"], SCRIPT, &[], &[0])?;
+    let run = served(rt.alloc(), &["serial"], SCRIPT, &[], &[0])?;
     assert_eq!(rt; run.status, Status::WriteFault);
     assert_eq!(rt; run.rounds, 1);
     assert_eq!(rt; run.text.len(), 0);
@@ -83,18 +83,18 @@ fn a_failing_sink_keeps_the_round(rt: HostRuntime) -> Result<(), Fail> {
 fn words_and_scripts_are_refused(rt: HostRuntime) -> Result<(), Fail> {
     let alloc = rt.alloc();
     assert_eq!(rt;
-        run(alloc, &[], SCRIPT, &[], &[])?.status,
+        served(alloc, &[], SCRIPT, &[], &[])?.status,
         Status::WordsRefused { at: 0 }
     );
     assert_eq!(rt;
-        run(alloc, &["tests"], SCRIPT, &[], &[])?.status,
+        served(alloc, &["tests"], SCRIPT, &[], &[])?.status,
         Status::WordsRefused { at: 0 }
     );
     assert_eq!(rt;
-        run(alloc, &["serial", "4"], SCRIPT, &[], &[])?.status,
+        served(alloc, &["serial", "4"], SCRIPT, &[], &[])?.status,
         Status::WordsRefused { at: 1 }
     );
-    let refused = run(alloc, &["serial"], b"x\n", &[], &[])?;
+    let refused = served(alloc, &["serial"], b"x\n", &[], &[])?;
     assert_eq!(rt;
         refused.status,
         Status::ScriptRefused {
@@ -102,7 +102,7 @@ fn words_and_scripts_are_refused(rt: HostRuntime) -> Result<(), Fail> {
             cause: ScriptCause::UnknownLine,
         }
     );
-    let unplayed = run(alloc, &["serial"], b"at 0\nipvs -C\n", &[], &[])?;
+    let unplayed = served(alloc, &["serial"], b"at 0\nipvs -C\n", &[], &[])?;
     assert_eq!(rt;
         unplayed.status,
         Status::ScriptRefused {
