@@ -1,1 +1,7 @@
-pub mod Built
+pub mod Tables
+pub mod Least
+pub mod Servers
+pub mod Bounds
+pub mod Arrivals
+pub mod TooLong
+pub mod Seen

@@ -1,35 +1,168 @@
-//! Additions of services and servers (ipvsadm(8)).
-use crate::tables::Tables;
-use lvs_types::{Dest, DestId, DestSpec, EditRefused, NoMemory, Reply, Service, ServiceKey};
+//! Edits of the tables, the timeouts and the daemons (ipvsadm(8)).
+ghost use Rattle.std.specs.Prelude.{◌≡◌, ◌<◌, ◌+◌, ◌^◌, IfOk, OnErr};
+ghost use Rattle.lvs_flat.specs.Tables.{state_of};
+ghost use Rattle.lvs_model.specs.Edits.{fresh, add_service, edit_service, remove_service, clear, start_master, start_backup, stop_master, stop_backup, with_timeouts, or_kept, set, edit};
 
-/// `-A`: refused where the service is there.
-pub(crate) fn add_service(tables: &mut Tables, service: &Service) -> Result<Reply, NoMemory> {
-    if tables.service(&service.key).is_some() {
+use crate::removal::{keep_after_clear, keep_after_service};
+use crate::servers::{add_server, edit_server, remove_server};
+use crate::services::{is_service, remove, replace};
+use crate::tables::Tables;
+use lvs_types::{
+    Command, Cursor, EditRefused, NoMemory, Reply, Service, ServiceKey, Setting, Settings,
+};
+use std::alloc::Global;
+
+fn with_fresh_cursor(service: &Service) -> Service
+    ensures { result ≡ fresh service.now }
+{
+    Service {
+        cursor: Cursor { last: None, cw: 0 },
+        ..*service
+    }
+}
+
+fn do_add_service(tables: &mut Tables, service: &Service) -> Result<Reply, NoMemory>
+    ensures ok { IfOk result (λ r. (r, state_of tables.new) ≡ add_service (state_of tables.old) service.now) }
+    ensures err { OnErr result (state_of tables.new ≡ state_of tables.old) }
+{
+    if is_service(&tables.services, service.key) {
         return Ok(Reply::Refused(EditRefused::Exists));
     }
-    tables.services.push(*service)?;
+    tables.services.push(with_fresh_cursor(service))?;
     Ok(Reply::Done)
 }
 
-/// `-a`: refused where the service isn't there, and where the server is.
-pub(crate) fn add_server(
-    tables: &mut Tables,
-    key: &ServiceKey,
-    spec: &DestSpec,
-) -> Result<Reply, NoMemory> {
-    if tables.service(key).is_none() {
+fn do_edit_service(tables: &mut Tables, service: &Service) -> Reply
+    ensures { (result, state_of tables.new) ≡ edit_service (state_of tables.old) service.now }
+{
+    if !is_service(&tables.services, service.key) {
+        return Reply::Refused(EditRefused::NoService);
+    }
+    replace(&mut tables.services, with_fresh_cursor(service));
+    Reply::Done
+}
+
+fn do_remove_service(alloc: Global, tables: &mut Tables, key: ServiceKey) -> Result<Reply, NoMemory>
+    ensures ok { IfOk result (λ r. (r, state_of tables.new) ≡ remove_service (state_of tables.old) key) }
+    ensures err { OnErr result (state_of tables.new ≡ state_of tables.old) }
+{
+    if !is_service(&tables.services, key) {
         return Ok(Reply::Refused(EditRefused::NoService));
     }
-    if tables.has_server(key, spec.addr, spec.port) {
-        return Ok(Reply::Refused(EditRefused::Exists));
-    }
-    let id = (tables.dests.len() as u64).saturating_add(1);
-    tables.dests.push(Dest {
-        id: DestId(id),
-        service: *key,
-        spec: *spec,
-        overloaded: false,
-        live: true,
-    })?;
+    let dests = keep_after_service(alloc, tables, key)?;
+    tables.dests = dests;
+    remove(&mut tables.services, key);
     Ok(Reply::Done)
+}
+
+fn do_clear(alloc: Global, tables: &mut Tables) -> Result<Reply, NoMemory>
+    ensures ok { IfOk result (λ r. (r, state_of tables.new) ≡ clear (state_of tables.old)) }
+    ensures err { OnErr result (state_of tables.new ≡ state_of tables.old) }
+{
+    let dests = keep_after_clear(alloc, tables)?;
+    tables.dests = dests;
+    tables.services.clear();
+    Ok(Reply::Done)
+}
+
+fn do_start_master(tables: &mut Tables, id: u8) -> Reply
+    ensures { (result, state_of tables.new) ≡ start_master (state_of tables.old) id (state_of tables.old).daemons.master }
+{
+    match tables.daemons.master {
+        Some(_) => Reply::Refused(EditRefused::Running),
+        None => {
+            tables.daemons.master = Some(id);
+            Reply::Done
+        }
+    }
+}
+
+fn do_start_backup(tables: &mut Tables, id: u8) -> Reply
+    ensures { (result, state_of tables.new) ≡ start_backup (state_of tables.old) id (state_of tables.old).daemons.backup }
+{
+    match tables.daemons.backup {
+        Some(_) => Reply::Refused(EditRefused::Running),
+        None => {
+            tables.daemons.backup = Some(id);
+            Reply::Done
+        }
+    }
+}
+
+fn do_stop_master(tables: &mut Tables) -> Reply
+    ensures { (result, state_of tables.new) ≡ stop_master (state_of tables.old) (state_of tables.old).daemons.master }
+{
+    match tables.daemons.master {
+        None => Reply::Refused(EditRefused::NotRunning),
+        Some(_) => {
+            tables.daemons.master = None;
+            tables.pending.clear();
+            Reply::Done
+        }
+    }
+}
+
+fn do_stop_backup(tables: &mut Tables) -> Reply
+    ensures { (result, state_of tables.new) ≡ stop_backup (state_of tables.old) (state_of tables.old).daemons.backup }
+{
+    match tables.daemons.backup {
+        None => Reply::Refused(EditRefused::NotRunning),
+        Some(_) => {
+            tables.daemons.backup = None;
+            Reply::Done
+        }
+    }
+}
+
+fn or_old(new: u32, old: u32) -> u32
+    ensures { result ≡ or_kept new old }
+{
+    if new == 0 { old } else { new }
+}
+
+fn set_timeouts(settings: &mut Settings, established: u32, fin_wait: u32, udp: u32)
+    ensures { settings.new ≡ with_timeouts established fin_wait udp settings.old }
+{
+    settings.established = or_old(established, settings.established);
+    settings.fin_wait = or_old(fin_wait, settings.fin_wait);
+    settings.udp = or_old(udp, settings.udp);
+}
+
+/// Changes the named sysctl alone.
+pub(crate) fn do_set(tables: &mut Tables, setting: &Setting) -> Reply
+    ensures { (result, state_of tables.new) ≡ set (state_of tables.old) setting.now }
+{
+    tables.settings.set(setting);
+    Reply::Done
+}
+
+/// Carries out an edit, or refuses it and changes nothing.
+pub(crate) fn do_edit(
+    alloc: Global,
+    tables: &mut Tables,
+    command: &Command,
+) -> Result<Reply, NoMemory>
+    requires { tables.old.next_dest + 1 < 2 ^ 64 }
+    ensures ok { IfOk result (λ r. (r, state_of tables.new) ≡ edit (state_of tables.old) command.now) }
+    ensures err { OnErr result (state_of tables.new ≡ state_of tables.old) }
+{
+    match command {
+        Command::AddService(service) => do_add_service(tables, service),
+        Command::EditService(service) => Ok(do_edit_service(tables, service)),
+        Command::RemoveService(key) => do_remove_service(alloc, tables, *key),
+        Command::Clear => do_clear(alloc, tables),
+        Command::AddServer(key, spec) => add_server(tables, *key, spec),
+        Command::EditServer(key, spec) => Ok(edit_server(tables, *key, spec)),
+        Command::RemoveServer(key, addr, port) => {
+            remove_server(alloc, tables, *key, *addr, *port)
+        }
+        Command::Timeouts(established, fin_wait, udp) => {
+            set_timeouts(&mut tables.settings, *established, *fin_wait, *udp);
+            Ok(Reply::Done)
+        }
+        Command::StartMaster(id) => Ok(do_start_master(tables, *id)),
+        Command::StartBackup(id) => Ok(do_start_backup(tables, *id)),
+        Command::StopMaster => Ok(do_stop_master(tables)),
+        Command::StopBackup => Ok(do_stop_backup(tables)),
+    }
 }

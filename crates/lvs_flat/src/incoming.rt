@@ -1,95 +1,143 @@
-//! Packets from clients, of services by turns and direct routing.
+//! An incoming packet: the rules in their order.
+ghost use Rattle.std.specs.Prelude.{◌≡◌, ◌<◌, ◌≤◌, ◌+◌, ◌^◌, [], take, Ok, Some, IfOk, OnErr, length, vec_len, vec_capacity};
+ghost use Rattle.std.specs.List.{AllByRecursion};
+ghost use Rattle.lvs_flat.specs.Tables.{state_of, IsRoomy};
+ghost use Rattle.lvs_flat.specs.Bounds.{HasRoom, HasFewPackets};
+ghost use Rattle.lvs_flat.specs.Arrivals.{packet_of, IsRead, ServesFor};
+ghost use Rattle.lvs_model.specs.Lookups.{entry_at};
+ghost use Rattle.lvs_model.specs.Packets.{key_of};
+ghost use Rattle.lvs_model.specs.Scheduling.{connect};
+ghost use Rattle.lvs_model.specs.Incoming.{end_entry, is_time_wait, is_quiet, is_trashed, server_named, is_reused, gone, continue, continue_at, continue_bound, arrive};
+
+use crate::arrival::{Arrival, Rooms};
+use crate::binding::try_to_bind;
+use crate::dests::{find_id, note_ended};
+use crate::entries::{find_key, remove};
+use crate::forwarding::forward_entry;
+use crate::packets::{is_syn, key_of_packet};
+use crate::serving::do_connect;
 use crate::tables::Tables;
-use lvs_headers::read_packet;
-use lvs_types::{
-    Bytes, Dest, DropCause, Entry, Head, Key, NoMemory, Proto, Reply, ServiceKey, TcpState,
-};
-use std::alloc::Global;
+use lvs_types::{Dest, DestId, DropCause, Entry, Reply, Settings, TcpState};
 
-/// In seconds, of a connection in SYN_RECV.
-const SYN_TIMEOUT: u32 = 60;
+/// The entry leaves, and its server's overload is looked at.
+pub(crate) fn do_end(tables: &mut Tables, e: &Entry)
+    ensures ended { state_of tables.new ≡ end_entry e.now (state_of tables.old) }
+    ensures roomy { IsRoomy tables.old → IsRoomy tables.new }
+    ensures dests { vec_len tables.new.dests ≡ vec_len tables.old.dests }
+{
+    remove(&mut tables.entries, e.id);
+    note_ended(&mut tables.dests, &tables.entries, e.server);
+}
 
-fn key_of(head: &Head) -> Key {
-    Key {
-        proto: Proto::Tcp,
-        caddr: head.src,
-        cport: head.sport,
-        vaddr: head.dst,
-        vport: head.dport,
+fn waits(state: Option<TcpState>) -> bool
+    ensures { result ≡ is_time_wait state }
+{
+    match state {
+        Some(TcpState::TimeWait) => true,
+        _ => false,
     }
 }
 
-/// A new entry for the packet, bound to the server.
-fn entry_for(tables: &Tables, head: &Head, server: &Dest) -> Entry {
-    Entry {
-        id: (tables.entries.len() as u64).saturating_add(1),
-        key: key_of(head),
-        server: Some(server.id),
-        method: server.spec.method,
-        daddr: server.spec.addr,
-        dport: server.spec.port,
-        state: Some(TcpState::SynRecv),
-        timeout: SYN_TIMEOUT,
-        deadline: tables.now.saturating_add(u64::from(SYN_TIMEOUT)),
-        packets: 1,
-        template: None,
-        mark: 0,
+fn is_without_weight(server: Option<Dest>) -> bool
+    ensures { result ≡ is_quiet server }
+{
+    match server {
+        None => false,
+        Some(d) => d.live && d.spec.weight == 0,
     }
 }
 
-/// The packet goes where the entry says.
-fn forward(entry: &Entry, bytes: Bytes) -> Reply {
-    Reply::Forward {
-        method: entry.method,
-        to: entry.daddr,
-        bytes,
+fn is_in_trash(server: Option<Dest>) -> bool
+    ensures { result ≡ is_trashed server }
+{
+    match server {
+        None => false,
+        Some(d) => !d.live,
     }
 }
 
-/// A packet of no entry: the next server in turn, and a new entry.
-fn connect(tables: &mut Tables, head: &Head, bytes: Bytes) -> Result<Reply, NoMemory> {
-    let key = ServiceKey::Net {
-        proto: Proto::Tcp,
-        addr: head.dst,
-        port: head.dport,
-    };
-    let Some(place) = tables.service(&key) else {
-        return Ok(Reply::Pass);
-    };
-    if head.rst || !head.syn || place >= tables.services.len() {
-        return Ok(Reply::Pass);
+fn find_named(dests: &[Dest], server: Option<DestId>) -> Option<Dest>
+    ensures { result ≡ server_named server dests.now }
+{
+    match server {
+        None => None,
+        Some(id) => find_id(dests, id),
     }
-    let Some(server) = tables.pick(&key, tables.services[place].cursor.last) else {
-        return Ok(Reply::Drop(DropCause::NoDest));
-    };
-    let entry = entry_for(tables, head, &server);
-    tables.entries.push(entry)?;
-    tables.services[place].cursor.last = Some(server.id);
-    Ok(forward(&entry, bytes))
 }
 
-/// What becomes of a packet from a client.
-pub(crate) fn incoming(
-    alloc: Global,
+fn reuses(settings: &Settings, p: &Arrival<'_>, e: &Entry, server: Option<Dest>) -> bool
+    ensures { result ≡ is_reused settings.now (packet_of p.now) e.now server }
+{
+    is_syn(p.proto, &p.head)
+        && ((settings.reuse_mode == 1 && waits(e.state))
+            || (0 < settings.expire_nodest && is_without_weight(server)))
+}
+
+fn do_gone(tables: &mut Tables, e: &Entry) -> Reply
+    ensures { (result, state_of tables.new) ≡ gone (state_of tables.old) e.now }
+{
+    if tables.settings.expire_nodest != 0 {
+        do_end(tables, e);
+    }
+    Reply::Drop(DropCause::Gone)
+}
+
+/// A new connection takes the entry's place.
+fn do_reuse(tables: &mut Tables, p: &Arrival<'_>, e: &Entry, rooms: Rooms) -> Reply
+    requires read { IsRead p.now }
+    requires roomy { IsRoomy tables.old }
+    requires rooms { ServesFor rooms tables.old p.now }
+    ensures { (result, state_of tables.new) ≡ connect (end_entry e.now (state_of tables.old)) (packet_of p.now) }
+{
+    do_end(tables, e);
+    do_connect(tables, p, rooms)
+}
+
+/// A packet whose entry is there, by whether the entry is reused, and whether its server was removed.
+fn do_continue(
     tables: &mut Tables,
-    bytes: &[u8],
-) -> Result<Reply, NoMemory> {
-    let packet = match read_packet(bytes) {
-        Ok(packet) => packet,
-        Err(cause) => return Ok(Reply::Drop(DropCause::Malformed(cause))),
-    };
-    let head = packet.head();
-    if head.fragment || head.code != 6 {
-        return Ok(Reply::Pass);
+    p: &Arrival<'_>,
+    e: &Entry,
+    server: Option<Dest>,
+    rooms: Rooms,
+) -> Reply
+    requires read { IsRead p.now }
+    requires roomy { IsRoomy tables.old }
+    requires rooms { ServesFor rooms tables.old p.now }
+    requires packets { HasFewPackets e.now }
+    ensures { (result, state_of tables.new) ≡ continue_at (state_of tables.old) (packet_of p.now) e.now server }
+{
+    if reuses(&tables.settings, p, e, server) {
+        return do_reuse(tables, p, e, rooms);
     }
-    let whole = Bytes::copied(alloc, packet.whole())?;
-    match tables.entry(&key_of(&head)) {
-        Some(place) if place < tables.entries.len() => {
-            let entry = &mut tables.entries[place];
-            entry.packets = entry.packets.saturating_add(1);
-            entry.deadline = tables.now.saturating_add(u64::from(entry.timeout));
-            Ok(forward(entry, whole))
-        }
-        _ => connect(tables, &head, whole),
+    if is_in_trash(server) {
+        return do_gone(tables, e);
+    }
+    forward_entry(tables, p, e, rooms.bytes)
+}
+
+fn do_bound(tables: &mut Tables, p: &Arrival<'_>, e: Entry, rooms: Rooms) -> Reply
+    requires read { IsRead p.now }
+    requires roomy { IsRoomy tables.old }
+    requires rooms { ServesFor rooms tables.old p.now }
+    requires packets { HasFewPackets e }
+    ensures { (result, state_of tables.new) ≡ arrive (state_of tables.old) (packet_of p.now) (Some e) }
+{
+    let e = try_to_bind(tables, e);
+    let server = find_named(&tables.dests, e.server);
+    do_continue(tables, p, &e, server, rooms)
+}
+
+/// The packet's entry is looked up, and the rules take it from there.
+pub(crate) fn do_arrive(tables: &mut Tables, p: &Arrival<'_>, rooms: Rooms) -> Reply
+    requires read { IsRead p.now }
+    requires roomy { IsRoomy tables.old }
+    requires rooms { ServesFor rooms tables.old p.now }
+    requires packets { AllByRecursion HasFewPackets tables.old.entries.items }
+    ensures { (result, state_of tables.new) ≡ arrive (state_of tables.old) (packet_of p.now) (entry_at (key_of p.now.proto p.now.head) tables.old.entries.items) }
+{
+    match find_key(&tables.entries, &key_of_packet(p.proto, &p.head)) {
+        None => do_connect(tables, p, rooms),
+        Some(e) => do_bound(tables, p, e, rooms),
     }
 }

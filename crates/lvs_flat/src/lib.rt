@@ -1,13 +1,30 @@
-//! The plain director: flat lists, and nothing computed from them.
+//! The plain director: flat lists in vectors, walked at each use.
 #![tactic(auto)]
 
-mod built;
+mod arrival;
+mod arriving;
+mod binding;
+mod clock;
+mod dests;
 mod edits;
+mod entries;
 mod flat;
+mod forwarding;
 mod incoming;
+mod learning;
+mod outgoing;
+mod packets;
+mod persistence;
+mod pick;
+mod removal;
+mod scheduling;
+mod sending;
+mod servers;
+mod services;
+mod serving;
 mod tables;
+mod templates;
 
-pub use built::can_step;
 pub use flat::Flat;
 
 #[cfg(test)]

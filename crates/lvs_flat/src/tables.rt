@@ -1,49 +1,72 @@
-//! The lists of the director, and look-ups in them.
-use lvs_types::{Addr, Dest, DestId, Entry, Key, Service, ServiceKey};
+//! What the director keeps.
+ghost use Rattle.std.specs.Prelude.{◌≡◌, IfOk};
+ghost use Rattle.lvs_flat.specs.Tables.{state_of};
+ghost use Rattle.lvs_model.specs.State.{initial};
 
-/// What the director keeps.
+use lvs_types::{Addr, Daemons, Dest, Entry, NoMemory, Service, Settings, SyncRecord, Template};
+use std::alloc::Global;
+
+/// The lists of the flat state, and its numbers.
 #[derive(Drop)]
 pub(crate) struct Tables {
-    pub now: u64,
+    pub moment: u64,
+    pub local: Addr,
+    pub buckets: u32,
+    pub settings: Settings,
+    pub daemons: Daemons,
     pub services: Vec<Service>,
     pub dests: Vec<Dest>,
+    pub templates: Vec<Template>,
     pub entries: Vec<Entry>,
+    pub pending: Vec<SyncRecord>,
+    pub next_entry: u64,
+    pub next_dest: u64,
+    pub next_template: u64,
 }
 
 impl Tables {
-    /// The place of the service.
-    pub(crate) fn service(&self, key: &ServiceKey) -> Option<usize> {
-        self.services.iter().position(|service| service.key == *key)
+    /// Tables with nothing in them.
+    pub(crate) fn empty(alloc: Global, local: Addr, buckets: u32) -> Tables
+        ensures { state_of result ≡ initial local buckets }
+    {
+        Tables {
+            moment: 0,
+            local,
+            buckets,
+            settings: Settings::initial(),
+            daemons: Daemons {
+                master: None,
+                backup: None,
+            },
+            services: Vec::new(alloc),
+            dests: Vec::new(alloc),
+            templates: Vec::new(alloc),
+            entries: Vec::new(alloc),
+            pending: Vec::new(alloc),
+            next_entry: 1,
+            next_dest: 1,
+            next_template: 1,
+        }
     }
 
-    /// Whether the service has a server of that address and port.
-    pub(crate) fn has_server(&self, key: &ServiceKey, addr: Addr, port: u16) -> bool {
-        self.dests.iter().any(|d| d.service == *key && d.spec.addr == addr && d.spec.port == port)
+    /// The same tables once more.
+    pub(crate) fn copy(&self, alloc: Global) -> Result<Tables, NoMemory>
+        ensures { IfOk result (λ t. state_of t ≡ state_of self.now) }
+    {
+        Ok(Tables {
+            moment: self.moment,
+            local: self.local,
+            buckets: self.buckets,
+            settings: self.settings,
+            daemons: self.daemons,
+            services: self.services.to_vec(alloc)?,
+            dests: self.dests.to_vec(alloc)?,
+            templates: self.templates.to_vec(alloc)?,
+            entries: self.entries.to_vec(alloc)?,
+            pending: self.pending.to_vec(alloc)?,
+            next_entry: self.next_entry,
+            next_dest: self.next_dest,
+            next_template: self.next_template,
+        })
     }
-
-    /// The place of the entry.
-    pub(crate) fn entry(&self, key: &Key) -> Option<usize> {
-        self.entries.iter().position(|entry| entry.key == *key)
-    }
-
-    /// The first server that can be picked after the one that was picked last, going round.
-    pub(crate) fn pick(&self, key: &ServiceKey, last: Option<DestId>) -> Option<Dest> {
-        let after = match last {
-            None => 0,
-            Some(id) => self
-                .dests
-                .iter()
-                .position(|d| d.id == id)
-                .map_or(0, |at| at.saturating_add(1)),
-        };
-        let (before, behind) = self.dests.split_at(after.min(self.dests.len()));
-        first_eligible(behind, key).or(first_eligible(before, key))
-    }
-}
-
-fn first_eligible(dests: &[Dest], key: &ServiceKey) -> Option<Dest> {
-    dests
-        .iter()
-        .find(|d| d.service == *key && d.live && !d.overloaded && d.spec.weight != 0)
-        .copied()
 }

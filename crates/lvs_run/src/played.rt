@@ -66,7 +66,7 @@ fn play_rounds<K: Sink>(
     }
 }
 
-/// A script that the director can't play so far.
+/// A script that can't be played so far.
 const UNKNOWN: Status = Status::ScriptRefused {
     line: 0,
     cause: ScriptCause::UnknownLine,

@@ -102,7 +102,7 @@ fn words_and_scripts_are_refused(rt: HostRuntime) -> Result<(), Fail> {
             cause: ScriptCause::UnknownLine,
         }
     );
-    let unplayed = served(alloc, &["serial"], b"at 0\nipvs -C\n", &[], &[])?;
+    let unplayed = served(alloc, &["serial"], b"at 0\nlist\n", &[], &[])?;
     assert_eq!(rt;
         unplayed.status,
         Status::ScriptRefused {

@@ -1,0 +1,15 @@
+use Rattle.std.proofs.Common.{rules, ◌≡◌, Some, None}
+use Rattle.std.specs.List.{position}
+use Rattle.lvs_model.specs.Lookups.{has_service_key}
+use Rattle.lvs_model.proofs.ListLemmas.{update_put, update_missed}
+use Rattle.lvs_flat.proofs.services.replace.Goals as goal
+
+pub returns-in-Some : goal.returns-in-Some
+returns-in-Some c =
+    let found : position (has_service_key c.args.service.key) c.args.services.now ≡ Some c.in-Some.place = search rules in
+    update_put (has_service_key c.args.service.key) c.args.service c.args.services.now c.in-Some.place found
+
+pub returns-in_default : goal.returns-in_default
+returns-in_default c =
+    let none : position (has_service_key c.args.service.key) c.args.services.now ≡ None = search rules in
+    update_missed (has_service_key c.args.service.key) (λ _. c.args.service) c.args.services.now none

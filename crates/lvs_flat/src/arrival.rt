@@ -1,0 +1,21 @@
+//! A packet on its way through the director, and the memory that is taken for it before the first change.
+use lvs_types::{Addr, Candidate, Dest, Head, Proto};
+
+/// An unfragmented packet of TCP or UDP.
+#[derive(Drop)]
+pub(crate) struct Arrival<'a> {
+    pub mark: u32,
+    pub proto: Proto,
+    pub head: Head,
+    /// The bytes up to the total length.
+    pub bytes: &'a [u8],
+}
+
+/// Empty lists with room for what the packet may need.
+#[derive(Drop)]
+pub(crate) struct Rooms {
+    pub bytes: Vec<u8>,
+    pub servers: Vec<Dest>,
+    pub candidates: Vec<Candidate>,
+    pub addrs: Vec<Addr>,
+}

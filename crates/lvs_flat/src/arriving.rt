@@ -1,0 +1,127 @@
+//! An incoming packet from its bytes to its reply.
+ghost use Rattle.std.specs.Prelude.{◌≡◌, ◌<◌, ◌≤◌, ◌+◌, ◌^◌, take, Some, None, IfOk, OnErr, length};
+ghost use Rattle.lvs_flat.specs.Tables.{state_of, IsRoomy};
+ghost use Rattle.std.specs.List.{AllByRecursion};
+ghost use Rattle.lvs_flat.specs.Bounds.{HasRoom, HasFewPackets};
+ghost use Rattle.lvs_flat.specs.TooLong.{says_too_long};
+ghost use Rattle.lvs_flat.specs.Arrivals.{packet_of, IsRead, ServesFor};
+ghost use Rattle.lvs_model.specs.Reading.{read};
+ghost use Rattle.lvs_model.specs.Packets.{transport_of};
+ghost use Rattle.lvs_model.specs.Incoming.{incoming, incoming_of, incoming_packet, take_back};
+
+use crate::arrival::{Arrival, Rooms};
+use crate::incoming::do_arrive;
+use crate::packets::transport;
+use crate::tables::Tables;
+use lvs_headers::read_packet;
+use lvs_types::{DropCause, NoMemory, Reply};
+use std::alloc::Global;
+
+/// Room in the tables for all that a packet may add.
+fn make_room(tables: &mut Tables) -> Result<(), NoMemory>
+    requires { HasRoom (state_of tables.old) }
+    ensures state { state_of tables.new ≡ state_of tables.old }
+    ensures dests { tables.new.dests ≡ tables.old.dests }
+    ensures roomy { IfOk result (λ _. IsRoomy tables.new) }
+{
+    tables.entries.reserve(1)?;
+    tables.templates.reserve(1)?;
+    tables.pending.reserve(2)?;
+    Ok(())
+}
+
+/// Empty lists for the packet and the servers.
+fn take_rooms(alloc: Global, tables: &Tables, p: &Arrival<'_>) -> Result<Rooms, NoMemory>
+    requires { IsRead p.now }
+    ensures { IfOk result (λ rooms. ServesFor rooms tables.now p.now) }
+{
+    let servers = tables.dests.len();
+    Ok(Rooms {
+        bytes: Vec::with_capacity(alloc, p.bytes.len() + 20)?,
+        servers: Vec::with_capacity(alloc, servers)?,
+        candidates: Vec::with_capacity(alloc, servers)?,
+        addrs: Vec::with_capacity(alloc, servers)?,
+    })
+}
+
+/// A packet that fits any tunnel: nothing is taken back.
+fn do_short(tables: &mut Tables, p: &Arrival<'_>, rooms: Rooms) -> Reply
+    requires short { p.now.head.total ≤ 65515 }
+    requires read { IsRead p.now }
+    requires roomy { IsRoomy tables.old }
+    requires rooms { ServesFor rooms tables.old p.now }
+    requires packets { AllByRecursion HasFewPackets tables.old.entries.items }
+    ensures { (result, state_of tables.new) ≡ incoming_packet (state_of tables.old) (packet_of p.now) }
+{
+    do_arrive(tables, p, rooms)
+}
+
+fn says_too_long_now(reply: &Reply) -> bool
+    ensures { result ≡ says_too_long reply.now }
+{
+    match reply {
+        Reply::Drop(DropCause::TooLong) => true,
+        _ => false,
+    }
+}
+
+/// A packet that may be too long for a tunnel: where it is, the tables are again as they were.
+fn do_long(tables: &mut Tables, p: &Arrival<'_>, rooms: Rooms, saved: Tables) -> Reply
+    requires read { IsRead p.now }
+    requires roomy { IsRoomy tables.old }
+    requires rooms { ServesFor rooms tables.old p.now }
+    requires packets { AllByRecursion HasFewPackets tables.old.entries.items }
+    requires saved { state_of saved ≡ state_of tables.old }
+    ensures { (result, state_of tables.new) ≡ incoming_packet (state_of tables.old) (packet_of p.now) }
+{
+    let reply = do_arrive(tables, p, rooms);
+    if says_too_long_now(&reply) {
+        *tables = saved;
+    }
+    reply
+}
+
+fn do_packet(alloc: Global, tables: &mut Tables, p: &Arrival<'_>) -> Result<Reply, NoMemory>
+    requires read { IsRead p.now }
+    requires room { HasRoom (state_of tables.old) }
+    ensures ok { IfOk result (λ r. (r, state_of tables.new) ≡ incoming_packet (state_of tables.old) (packet_of p.now)) }
+    ensures err { OnErr result (state_of tables.new ≡ state_of tables.old) }
+{
+    let rooms = take_rooms(alloc, tables, p)?;
+    if p.head.total <= 65515 {
+        make_room(tables)?;
+        Ok(do_short(tables, p, rooms))
+    } else {
+        let saved = tables.copy(alloc)?;
+        make_room(tables)?;
+        Ok(do_long(tables, p, rooms, saved))
+    }
+}
+
+/// An incoming packet, from its bytes to its reply.
+pub(crate) fn do_incoming(
+    alloc: Global,
+    tables: &mut Tables,
+    mark: u32,
+    bytes: &[u8],
+) -> Result<Reply, NoMemory>
+    requires { HasRoom (state_of tables.old) }
+    ensures ok { IfOk result (λ r. (r, state_of tables.new) ≡ incoming (state_of tables.old) mark bytes.now) }
+    ensures err { OnErr result (state_of tables.new ≡ state_of tables.old) }
+{
+    let packet = match read_packet(bytes) {
+        Err(cause) => return Ok(Reply::Drop(DropCause::Malformed(cause))),
+        Ok(packet) => packet,
+    };
+    let head = packet.head();
+    let Some(proto) = transport(&head) else {
+        return Ok(Reply::Pass);
+    };
+    let arrival = Arrival {
+        mark,
+        proto,
+        head,
+        bytes: packet.whole(),
+    };
+    do_packet(alloc, tables, &arrival)
+}

@@ -1,0 +1,210 @@
+//! Look-ups and edits of the real servers.
+ghost use Rattle.std.specs.Prelude.{◌≡◌, Some, ◌&&◌, ◌+◌, ◌≤◌, [], length, vec_len, vec_capacity, map};
+ghost use Rattle.std.specs.List.{find, filter, list_any, position};
+ghost use Rattle.lvs_types.specs.declared.dest.Dest.{Dest};
+ghost use Rattle.lvs_model.specs.Lookups.{dest_at, has_dest_id, is_server_of, is_server_at, servers_of};
+ghost use Rattle.lvs_model.specs.Counts.{is_eligible, candidate_of, candidates, refs, total};
+ghost use Rattle.lvs_model.specs.Binding.{serves_at, count_bound, count_ended};
+ghost use Rattle.lvs_model.specs.Overload.{is_reached, is_relieved, overload_bound, overload_ended};
+
+use crate::entries::{count_active, count_inactive, count_total};
+use crate::templates::count_naming;
+use lvs_types::{Addr, Candidate, Dest, DestId, DestSpec, Entry, ServiceKey, Template};
+
+/// The server of an id, live or in the trash.
+pub(crate) fn find_id(dests: &[Dest], id: DestId) -> Option<Dest>
+    ensures { result ≡ dest_at id dests.now }
+{
+    for d in dests {
+        if d.id == id {
+            return Some(*d);
+        }
+    }
+    None
+}
+
+fn is_live_of(d: &Dest, key: ServiceKey) -> bool
+    ensures { result ≡ is_server_of key d.now }
+{
+    d.live && d.service == key
+}
+
+/// Whether it is a live server of the service at this address and port.
+pub(crate) fn is_live_at(d: &Dest, key: ServiceKey, addr: Addr, port: u16) -> bool
+    ensures { result ≡ is_server_at key addr port d.now }
+{
+    is_live_of(d, key) && (d.spec.addr == addr && d.spec.port == port)
+}
+
+/// The live server of the service at this address and port.
+pub(crate) fn find_at(dests: &[Dest], key: ServiceKey, addr: Addr, port: u16) -> Option<Dest>
+    ensures { result ≡ find (is_server_at key addr port) dests.now }
+{
+    for d in dests {
+        if is_live_at(d, key, addr, port) {
+            return Some(*d);
+        }
+    }
+    None
+}
+
+pub(crate) fn is_there(dests: &[Dest], key: ServiceKey, addr: Addr, port: u16) -> bool
+    ensures { result ≡ list_any (is_server_at key addr port) dests.now }
+{
+    dests.iter().any(|d| is_live_at(d, key, addr, port))
+}
+
+/// Whether the server takes the packets of a connection to this address and port.
+fn serves(d: &Dest, daddr: Addr, dport: u16, vport: u16) -> bool
+    ensures { result ≡ serves_at daddr dport vport d.now }
+{
+    d.spec.addr == daddr && (d.spec.port == dport || (d.spec.port == 0 && dport == vport))
+}
+
+/// The first live server of the service that takes them.
+pub(crate) fn find_serving(
+    dests: &[Dest],
+    key: ServiceKey,
+    daddr: Addr,
+    dport: u16,
+    vport: u16,
+) -> Option<Dest>
+    ensures { result ≡ find (λ d. is_server_of key d && serves_at daddr dport vport d) dests.now }
+{
+    for d in dests {
+        if is_live_of(d, key) && serves(d, daddr, dport, vport) {
+            return Some(*d);
+        }
+    }
+    None
+}
+
+/// Copies the servers of a service into a list that has room for them.
+pub(crate) fn list_servers(servers: &mut Vec<Dest>, dests: &[Dest], key: ServiceKey)
+    requires empty { servers.old.items ≡ [] }
+    requires room { length dests.now ≤ vec_capacity servers.old }
+    ensures items { servers.new.items ≡ servers_of key dests.now }
+    ensures bound { vec_len servers.new ≤ length dests.now }
+{
+    for d in dests {
+        if is_live_of(d, key) {
+            servers.push_reserved(*d);
+        }
+    }
+}
+
+fn candidate(entries: &[Entry], d: &Dest) -> Candidate
+    ensures { result ≡ candidate_of entries.now d.now }
+{
+    Candidate {
+        id: d.id,
+        weight: d.spec.weight,
+        active: count_active(entries, d.id),
+        inactive: count_inactive(entries, d.id),
+        eligible: d.live && 0 < d.spec.weight && !d.overloaded,
+    }
+}
+
+/// The servers as a scheduler sees them, in a list that has room for them.
+pub(crate) fn list_candidates(found: &mut Vec<Candidate>, servers: &[Dest], entries: &[Entry])
+    requires empty { found.old.items ≡ [] }
+    requires room { length servers.now ≤ vec_capacity found.old }
+    ensures { found.new.items ≡ map (candidate_of entries.now) servers.now }
+{
+    for d in servers {
+        found.push_reserved(candidate(entries, d));
+    }
+}
+
+/// The servers' addresses, in a list that has room for them.
+pub(crate) fn list_addrs(addrs: &mut Vec<Addr>, servers: &[Dest])
+    requires empty { addrs.old.items ≡ [] }
+    requires room { length servers.now ≤ vec_capacity addrs.old }
+    ensures { addrs.new.items ≡ map (λ (d : Dest). d.spec.addr) servers.now }
+{
+    for d in servers {
+        addrs.push_reserved(d.spec.addr);
+    }
+}
+
+/// How much names the server.
+pub(crate) fn count_refs(entries: &[Entry], templates: &[Template], id: DestId) -> u128
+    ensures { result ≡ refs id entries.now templates.now }
+{
+    u128::from(count_total(entries, id)) + u128::from(count_naming(templates, id))
+}
+
+/// Whether so many connections reach the upper threshold, where there is one.
+pub(crate) fn reaches(spec: &DestSpec, total: u64) -> bool
+    ensures { result ≡ is_reached spec.now total }
+{
+    0 < spec.upper && u64::from(spec.upper) <= total
+}
+
+/// Whether so many connections are few enough.
+fn relieves(spec: &DestSpec, total: u64) -> bool
+    ensures { result ≡ is_relieved spec.now total }
+{
+    spec.upper == 0
+        || (0 < spec.lower && total < u64::from(spec.lower))
+        || (spec.lower == 0 && 0 < spec.upper && 4 * u128::from(total) < 3 * u128::from(spec.upper))
+}
+
+/// The overload after entries that named the server were ended, of which so many stay.
+pub(crate) fn relieved(spec: &DestSpec, total: u64, before: bool) -> bool
+    ensures { result ≡ overload_ended spec.now total before }
+{
+    if relieves(spec, total) { false } else { before }
+}
+
+fn place_of(dests: &[Dest], id: DestId) -> Option<usize>
+    ensures { result ≡ position (has_dest_id id) dests.now }
+{
+    dests.iter().position(|d| d.id == id)
+}
+
+fn with_bound(d: &Dest, entries: &[Entry], id: DestId) -> Dest
+    ensures { result ≡ record d.now { overloaded = overload_bound d.now.spec (total id entries.now) d.now.overloaded } }
+{
+    Dest {
+        overloaded: d.overloaded || reaches(&d.spec, count_total(entries, id)),
+        ..*d
+    }
+}
+
+/// An entry was bound to the server.
+pub(crate) fn note_bound(dests: &mut [Dest], entries: &[Entry], id: DestId)
+    ensures { dests.new ≡ count_bound id entries.now dests.old }
+{
+    if let Some(place) = place_of(dests, id) {
+        let d = dests[place];
+        dests[place] = with_bound(&d, entries, id);
+    }
+}
+
+fn with_ended(d: &Dest, entries: &[Entry], id: DestId) -> Dest
+    ensures { result ≡ record d.now { overloaded = overload_ended d.now.spec (total id entries.now) d.now.overloaded } }
+{
+    Dest {
+        overloaded: relieved(&d.spec, count_total(entries, id), d.overloaded),
+        ..*d
+    }
+}
+
+fn note_ended_at(dests: &mut [Dest], entries: &[Entry], id: DestId)
+    ensures { dests.new ≡ count_ended (Some id) entries.now dests.old }
+{
+    if let Some(place) = place_of(dests, id) {
+        let d = dests[place];
+        dests[place] = with_ended(&d, entries, id);
+    }
+}
+
+/// An entry that named the server was ended.
+pub(crate) fn note_ended(dests: &mut [Dest], entries: &[Entry], server: Option<DestId>)
+    ensures { dests.new ≡ count_ended server entries.now dests.old }
+{
+    if let Some(id) = server {
+        note_ended_at(dests, entries, id);
+    }
+}

@@ -1,0 +1,131 @@
+//! Look-ups, counts and edits of the entries.
+ghost use Rattle.std.specs.Prelude.{◌≡◌, ◌≤◌, ◌+◌, length, count_by, vec_len, vec_capacity, IfSome};
+ghost use Rattle.std.specs.List.{find, filter, list_any, position, AllByRecursion};
+ghost use Rattle.lvs_types.specs.declared.entry.Entry.{Entry};
+ghost use Rattle.lvs_model.specs.Lists.{without, least_by};
+ghost use Rattle.lvs_model.specs.Lookups.{entry_at, has_entry_id, is_reply_of, reply_entry};
+ghost use Rattle.lvs_model.specs.Binding.{put_entry};
+ghost use Rattle.lvs_flat.specs.Least.{older};
+ghost use Rattle.lvs_flat.specs.Bounds.{HasFewPackets};
+ghost use Rattle.lvs_model.specs.Counts.{active, inactive, total, controls, is_made_by};
+
+use lvs_states::is_active;
+use lvs_types::{Addr, DestId, Entry, Key, Method, Proto, TemplateId};
+
+/// The entry of a key.
+pub(crate) fn find_key(entries: &[Entry], key: &Key) -> Option<Entry>
+    ensures found { result ≡ entry_at key.now entries.now }
+    ensures packets { AllByRecursion HasFewPackets entries.now → IfSome result HasFewPackets }
+{
+    for e in entries {
+        if e.key == *key {
+            return Some(*e);
+        }
+    }
+    None
+}
+
+/// The two sides of a masqueraded connection: the real server's and the client's.
+#[derive(Drop)]
+pub(crate) struct ReplySides {
+    pub proto: Proto,
+    pub daddr: Addr,
+    pub dport: u16,
+    pub caddr: Addr,
+    pub cport: u16,
+}
+
+fn is_reply(sides: &ReplySides, e: &Entry) -> bool
+    ensures { result ≡ is_reply_of sides.now.proto sides.now.daddr sides.now.dport sides.now.caddr sides.now.cport e.now }
+{
+    e.method == Method::Masq
+        && e.key.proto == sides.proto
+        && e.daddr == sides.daddr
+        && e.dport == sides.dport
+        && e.key.caddr == sides.caddr
+        && e.key.cport == sides.cport
+}
+
+/// Of the least one so far and the next one that with the lower id, the first one where they agree.
+fn lower(least: Option<Entry>, next: &Entry) -> Entry
+    ensures { result ≡ older least next.now }
+{
+    match least {
+        None => *next,
+        Some(e) => { if e.id <= next.id { e } else { *next } }
+    }
+}
+
+/// The entry of a reply: of the masqueraded connections between the two sides the one of least id.
+#[tactic(auto, using(crate::proofs::Least::lead_more))]
+pub(crate) fn find_reply(entries: &[Entry], sides: &ReplySides) -> Option<Entry>
+    ensures { result ≡ reply_entry sides.now.proto sides.now.daddr sides.now.dport sides.now.caddr sides.now.cport entries.now }
+{
+    let mut least = None;
+    for e in entries {
+        if is_reply(sides, e) {
+            least = Some(lower(least, e));
+        }
+    }
+    least
+}
+
+/// How many entries name the server in state Established.
+pub(crate) fn count_active(entries: &[Entry], id: DestId) -> u64
+    ensures value { result ≡ active id entries.now }
+    ensures bound { result ≤ length entries.now }
+{
+    entries
+        .iter()
+        .filter(|e| e.server == Some(id) && is_active(e.state))
+        .count() as u64
+}
+
+/// How many other entries name the server.
+pub(crate) fn count_inactive(entries: &[Entry], id: DestId) -> u64
+    ensures value { result ≡ inactive id entries.now }
+    ensures bound { result ≤ length entries.now }
+{
+    entries
+        .iter()
+        .filter(|e| e.server == Some(id) && !is_active(e.state))
+        .count() as u64
+}
+
+/// How many entries name the server.
+pub(crate) fn count_total(entries: &[Entry], id: DestId) -> u64
+    ensures { result ≡ total id entries.now }
+{
+    count_active(entries, id) + count_inactive(entries, id)
+}
+
+/// How many entries were made by the template.
+pub(crate) fn count_controls(entries: &[Entry], id: TemplateId) -> u64
+    ensures { result ≡ controls id entries.now }
+{
+    entries.iter().filter(|e| e.template == Some(id)).count() as u64
+}
+
+fn place_of(entries: &[Entry], id: u64) -> Option<usize>
+    ensures { result ≡ position (has_entry_id id) entries.now }
+{
+    entries.iter().position(|e| e.id == id)
+}
+
+/// Puts an entry in the place of the one of its id.
+pub(crate) fn put(entries: &mut [Entry], entry: Entry)
+    ensures { entries.new ≡ put_entry entry entries.old }
+{
+    if let Some(place) = place_of(entries, entry.id) {
+        entries[place] = entry;
+    }
+}
+
+/// Takes out the entry of an id.
+pub(crate) fn remove(entries: &mut Vec<Entry>, id: u64)
+    ensures items { entries.new.items ≡ without (has_entry_id id) entries.old.items }
+    ensures bound { vec_len entries.new ≤ vec_len entries.old }
+    ensures capacity { vec_capacity entries.new ≡ vec_capacity entries.old }
+{
+    entries.retain(|e| e.id != id);
+}

@@ -1,0 +1,353 @@
+//! A new connection: its service, its template, the pick of a server, and its entry.
+ghost use Rattle.std.specs.Prelude.{◌≡◌, ◌<◌, ◌≤◌, ◌+◌, ◌^◌, [], Some, None, map, length, slice_get, vec_len, vec_capacity};
+ghost use Rattle.lvs_flat.specs.Tables.{state_of, IsRoomy, CanEnter};
+ghost use Rattle.lvs_flat.specs.Arrivals.{packet_of, IsRead, ServesFor};
+ghost use Rattle.lvs_model.specs.Lookups.{servers_of};
+ghost use Rattle.lvs_types.specs.declared.dest.Dest.{Dest};
+ghost use Rattle.lvs_model.specs.LeastLoad.{AreWeighed};
+ghost use Rattle.lvs_model.specs.Counts.{candidate_of, candidates};
+ghost use Rattle.lvs_model.specs.Pick.{pick};
+ghost use Rattle.lvs_model.specs.Scheduling.{port_at, mark_of, state_before, new_entry, enter, is_one_packet, connect_to, new_template, replace_template, take_pick, with_cursor, pick_at, picked, schedule};
+
+use crate::arrival::{Arrival, Rooms};
+use crate::dests::{list_addrs, list_candidates, list_servers, note_bound};
+use crate::forwarding::{direction_of, forward, push_records, put_in_state, state_then};
+use crate::packets::key_of_packet;
+use crate::persistence::key_for;
+use crate::pick::pick_server;
+use crate::services::set_cursor;
+use crate::tables::Tables;
+use crate::templates::remove;
+use lvs_types::{
+    Addr, Candidate, Cursor, Dest, DropCause, Entry, Head, Proto, Reply, Service, ServiceKey,
+    TcpState, Template, TemplateId, TemplateKey,
+};
+
+/// The port to which a connection goes.
+fn port_for(d: &Dest, head: &Head) -> u16
+    ensures { result ≡ port_at d.now head.now }
+{
+    if d.spec.port == 0 {
+        head.dport
+    } else {
+        d.spec.port
+    }
+}
+
+fn mark_for(key: ServiceKey) -> u32
+    ensures { result ≡ mark_of key }
+{
+    match key {
+        ServiceKey::Net { .. } => 0,
+        ServiceKey::Mark(mark) => mark,
+    }
+}
+
+fn first_state(proto: Proto) -> Option<TcpState>
+    ensures { result ≡ state_before proto }
+{
+    match proto {
+        Proto::Tcp => Some(TcpState::None0),
+        Proto::Udp => None,
+    }
+}
+
+fn make_entry(
+    tables: &Tables,
+    p: &Arrival<'_>,
+    service: &Service,
+    d: &Dest,
+    template: Option<TemplateId>,
+) -> Entry
+    requires { tables.now.moment < 2 ^ 32 }
+    ensures { result ≡ new_entry (state_of tables.now) (packet_of p.now) service.now d.now template }
+{
+    let state = state_then(first_state(p.proto), direction_of(d.spec.method), &p.head);
+    let blank = Entry {
+        id: tables.next_entry,
+        key: key_of_packet(p.proto, &p.head),
+        server: Some(d.id),
+        method: d.spec.method,
+        daddr: d.spec.addr,
+        dport: port_for(d, &p.head),
+        state: None,
+        timeout: 0,
+        deadline: 0,
+        packets: 1,
+        template,
+        mark: mark_for(service.key),
+    };
+    put_in_state(&tables.settings, tables.moment, state, &blank)
+}
+
+/// The connection gets its entry, which counts at its server.
+fn do_enter(tables: &mut Tables, p: &Arrival<'_>, e: &Entry, d: &Dest, room: Vec<u8>) -> Reply
+    requires read { IsRead p.now }
+    requires roomy { CanEnter tables.old }
+    requires empty { room.items ≡ [] }
+    requires space { length p.now.bytes.now + 20 ≤ vec_capacity room }
+    ensures { (result, state_of tables.new) ≡ enter (state_of tables.old) (packet_of p.now) e.now d.now }
+{
+    let reply = forward(tables, p, e.method, e.daddr, e.dport, room);
+    tables.entries.push_reserved(*e);
+    note_bound(&mut tables.dests, &tables.entries, d.id);
+    push_records(tables, first_state(p.proto), e);
+    tables.next_entry += 1;
+    reply
+}
+
+fn leaves_no_entry(service: &Service, proto: Proto) -> bool
+    ensures { result ≡ is_one_packet service.now proto }
+{
+    match proto {
+        Proto::Tcp => false,
+        Proto::Udp => service.one_packet,
+    }
+}
+
+/// The packet goes to the server.
+pub(crate) fn do_connect_to(
+    tables: &mut Tables,
+    p: &Arrival<'_>,
+    service: &Service,
+    d: &Dest,
+    template: Option<TemplateId>,
+    room: Vec<u8>,
+) -> Reply
+    requires read { IsRead p.now }
+    requires roomy { CanEnter tables.old }
+    requires empty { room.items ≡ [] }
+    requires space { length p.now.bytes.now + 20 ≤ vec_capacity room }
+    ensures { (result, state_of tables.new) ≡ connect_to (state_of tables.old) (packet_of p.now) service.now d.now template }
+{
+    if leaves_no_entry(service, p.proto) {
+        forward(
+            tables,
+            p,
+            d.spec.method,
+            d.spec.addr,
+            port_for(d, &p.head),
+            room,
+        )
+    } else {
+        let e = make_entry(tables, p, service, d, template);
+        do_enter(tables, p, &e, d, room)
+    }
+}
+
+fn make_template(tables: &Tables, key: TemplateKey, seconds: u32, d: &Dest) -> Template
+    requires { tables.now.moment < 2 ^ 32 }
+    ensures { result ≡ new_template (state_of tables.now) key seconds d.now }
+{
+    Template {
+        id: TemplateId(tables.next_template),
+        key,
+        server: Some(d.id),
+        method: d.spec.method,
+        daddr: d.spec.addr,
+        dport: d.spec.port,
+        timeout: seconds,
+        deadline: tables.moment + u64::from(seconds),
+    }
+}
+
+/// The template of the key leaves, if there is one, and this one stands last.
+fn do_replace_template(tables: &mut Tables, t: &Template)
+    requires { IsRoomy tables.old }
+    ensures state { state_of tables.new ≡ replace_template t.now (state_of tables.old) }
+    ensures roomy { CanEnter tables.new }
+{
+    remove(&mut tables.templates, &t.key);
+    tables.templates.push_reserved(*t);
+    tables.next_template += 1;
+}
+
+/// The picked server takes the connection; a persistent service keeps it in a new template.
+fn do_take_pick(
+    tables: &mut Tables,
+    p: &Arrival<'_>,
+    service: &Service,
+    d: &Dest,
+    room: Vec<u8>,
+) -> Reply
+    requires read { IsRead p.now }
+    requires roomy { IsRoomy tables.old }
+    requires empty { room.items ≡ [] }
+    requires space { length p.now.bytes.now + 20 ≤ vec_capacity room }
+    ensures { (result, state_of tables.new) ≡ take_pick (state_of tables.old) (packet_of p.now) service.now d.now service.now.persist }
+{
+    match service.persist {
+        None => do_connect_to(tables, p, service, d, None, room),
+        Some(seconds) => {
+            let t = make_template(tables, key_for(service, p.head.src), seconds, d);
+            do_replace_template(tables, &t);
+            do_connect_to(tables, p, service, d, Some(t.id), room)
+        }
+    }
+}
+
+fn move_cursor(tables: &mut Tables, key: ServiceKey, cursor: Cursor)
+    ensures state { state_of tables.new ≡ with_cursor key cursor (state_of tables.old) }
+    ensures roomy { IsRoomy tables.old → IsRoomy tables.new }
+{
+    set_cursor(&mut tables.services, key, cursor);
+}
+
+/// The cursor becomes this one, and the picked server takes the connection.
+fn do_move_on(
+    tables: &mut Tables,
+    p: &Arrival<'_>,
+    service: &Service,
+    cursor: Cursor,
+    d: &Dest,
+    room: Vec<u8>,
+) -> Reply
+    requires read { IsRead p.now }
+    requires roomy { IsRoomy tables.old }
+    requires empty { room.items ≡ [] }
+    requires space { length p.now.bytes.now + 20 ≤ vec_capacity room }
+    ensures { (result, state_of tables.new) ≡ take_pick (with_cursor service.now.key cursor (state_of tables.old)) (packet_of p.now) service.now d.now service.now.persist }
+{
+    move_cursor(tables, service.key, cursor);
+    do_take_pick(tables, p, service, d, room)
+}
+
+fn do_pick_at(
+    tables: &mut Tables,
+    p: &Arrival<'_>,
+    service: &Service,
+    cursor: Cursor,
+    server: Option<Dest>,
+    room: Vec<u8>,
+) -> Reply
+    requires read { IsRead p.now }
+    requires roomy { IsRoomy tables.old }
+    requires empty { room.items ≡ [] }
+    requires space { length p.now.bytes.now + 20 ≤ vec_capacity room }
+    ensures { (result, state_of tables.new) ≡ pick_at (state_of tables.old) (packet_of p.now) service.now cursor server }
+{
+    match server {
+        None => Reply::Drop(DropCause::NoDest),
+        Some(d) => do_move_on(tables, p, service, cursor, &d, room),
+    }
+}
+
+fn server_at(servers: &[Dest], place: usize) -> Option<Dest>
+    ensures { result ≡ slice_get servers.now place }
+{
+    servers.get(place).copied()
+}
+
+fn do_take_choice(
+    tables: &mut Tables,
+    p: &Arrival<'_>,
+    service: &Service,
+    servers: &[Dest],
+    choice: Option<(usize, Cursor)>,
+    room: Vec<u8>,
+) -> Reply
+    requires servers { servers.now ≡ servers_of service.now.key tables.old.dests.items }
+    requires read { IsRead p.now }
+    requires roomy { IsRoomy tables.old }
+    requires empty { room.items ≡ [] }
+    requires space { length p.now.bytes.now + 20 ≤ vec_capacity room }
+    ensures { (result, state_of tables.new) ≡ picked (state_of tables.old) (packet_of p.now) service.now choice }
+{
+    match choice {
+        None => Reply::Drop(DropCause::NoDest),
+        Some((place, cursor)) => {
+            do_pick_at(tables, p, service, cursor, server_at(servers, place), room)
+        }
+    }
+}
+
+fn pick_from(
+    service: &Service,
+    found: &Vec<Candidate>,
+    addrs: &Vec<Addr>,
+    p: &Arrival<'_>,
+) -> Option<(usize, Cursor)>
+    requires weighed { AreWeighed found.now.items }
+    requires addrs { vec_len addrs.now ≡ vec_len found.now }
+    ensures { result ≡ pick service.now.scheduler found.now.items addrs.now.items service.now.cursor p.now.head.src p.now.head.dst }
+{
+    pick_server(
+        service.scheduler,
+        found,
+        addrs,
+        &service.cursor,
+        p.head.src,
+        p.head.dst,
+    )
+}
+
+fn find_candidates(tables: &Tables, servers: &[Dest], found: &mut Vec<Candidate>)
+    requires empty { found.old.items ≡ [] }
+    requires room { length servers.now ≤ vec_capacity found.old }
+    ensures items { found.new.items ≡ map (candidate_of tables.now.entries.items) servers.now }
+    ensures len { vec_len found.new ≡ length servers.now }
+{
+    list_candidates(found, servers, &tables.entries);
+}
+
+fn find_addrs(servers: &[Dest], addrs: &mut Vec<Addr>)
+    requires empty { addrs.old.items ≡ [] }
+    requires room { length servers.now ≤ vec_capacity addrs.old }
+    ensures items { addrs.new.items ≡ map (λ (d : Dest). d.spec.addr) servers.now }
+    ensures len { vec_len addrs.new ≡ length servers.now }
+{
+    list_addrs(addrs, servers);
+}
+
+/// The server that the scheduler picks among the service's, and the cursor that is left.
+fn choose(
+    tables: &Tables,
+    p: &Arrival<'_>,
+    service: &Service,
+    servers: &[Dest],
+    mut found: Vec<Candidate>,
+    mut addrs: Vec<Addr>,
+) -> Option<(usize, Cursor)>
+    requires servers { servers.now ≡ servers_of service.now.key tables.now.dests.items }
+    requires empty { found.items ≡ [] }
+    requires room { length servers.now ≤ vec_capacity found }
+    requires no_addrs { addrs.items ≡ [] }
+    requires addrs_room { length servers.now ≤ vec_capacity addrs }
+    ensures { result ≡ pick service.now.scheduler (candidates service.now.key tables.now.dests.items tables.now.entries.items) (map (λ (d : Dest). d.spec.addr) (servers_of service.now.key tables.now.dests.items)) service.now.cursor p.now.head.src p.now.head.dst }
+{
+    find_candidates(tables, servers, &mut found);
+    find_addrs(servers, &mut addrs);
+    pick_from(service, &found, &addrs, p)
+}
+
+fn find_servers(tables: &Tables, key: ServiceKey, servers: &mut Vec<Dest>)
+    requires empty { servers.old.items ≡ [] }
+    requires room { vec_len tables.now.dests ≤ vec_capacity servers.old }
+    ensures items { servers.new.items ≡ servers_of key tables.now.dests.items }
+    ensures bound { vec_len servers.new ≤ vec_len tables.now.dests }
+{
+    list_servers(servers, &tables.dests, key);
+}
+
+/// The scheduler picks, on the counts as they are now.
+pub(crate) fn do_schedule(
+    tables: &mut Tables,
+    p: &Arrival<'_>,
+    service: &Service,
+    rooms: Rooms,
+) -> Reply
+    requires read { IsRead p.now }
+    requires roomy { IsRoomy tables.old }
+    requires rooms { ServesFor rooms tables.old p.now }
+    ensures { (result, state_of tables.new) ≡ schedule (state_of tables.old) (packet_of p.now) service.now }
+{
+    let Rooms {
+        bytes,
+        mut servers,
+        candidates,
+        addrs,
+    } = rooms;
+    find_servers(tables, service.key, &mut servers);
+    let choice = choose(tables, p, service, &servers, candidates, addrs);
+    do_take_choice(tables, p, service, &servers, choice, bytes)
+}
