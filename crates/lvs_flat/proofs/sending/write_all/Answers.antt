@@ -17,10 +17,10 @@ returns c =
     let rest = c.loop-rest.rest.now in
     let all = messages_of c.args.setting c.args.sync_id c.args.records.now in
     elim c.if-not-is_empty.branch [
-    | then-not-is_empty+in_ok-write_first-2+in_ok-push-2 w ↦
-        c.from_vec.ensures ∙ ap (λ (v : Vec (List ℕ) Global). v.items) w.messages-is
-        ∙ ends_with c.args.setting c.args.sync_id rest c.loop-rest.messages.items w.push-then-not-is_empty.new.self.items w.in_ok-write_first-2.field-0 all (some_left (length rest) (sym w.if-not-is_empty.true ∙ c.is_empty.ensures)) (omega (arith, c.loop-rest-test.false)) w.in_ok-write_first-2.ensures w.in_ok-push-2.ensures.items c.loop-rest.invariant.so_far
-    | else-not-is_empty w ↦
-        c.from_vec.ensures ∙ ap (λ (v : Vec (List ℕ) Global). v.items) w.messages-is
-        ∙ ends_without c.args.setting c.args.sync_id rest c.loop-rest.messages.items all (none_left (length rest) (sym w.if-not-is_empty.false ∙ c.is_empty.ensures)) c.loop-rest.invariant.so_far
+      | then-not-is_empty+in_ok-write_first-2+in_ok-push-2 w ↦
+          c.from_vec.ensures ∙ ap (λ (v : Vec (List ℕ) Global). v.items) w.messages-is
+          ∙ ends_with c.args.setting c.args.sync_id rest c.loop-rest.messages.items w.push-then-not-is_empty.new.self.items w.in_ok-write_first-2.field-0 all (some_left (length rest) (sym w.if-not-is_empty.true ∙ c.is_empty.ensures)) (omega (arith, c.loop-rest-test.false)) w.in_ok-write_first-2.ensures w.in_ok-push-2.ensures.items c.loop-rest.invariant.so_far
+      | else-not-is_empty w ↦
+          c.from_vec.ensures ∙ ap (λ (v : Vec (List ℕ) Global). v.items) w.messages-is
+          ∙ ends_without c.args.setting c.args.sync_id rest c.loop-rest.messages.items all (none_left (length rest) (sym w.if-not-is_empty.false ∙ c.is_empty.ensures)) c.loop-rest.invariant.so_far
     ]
