@@ -1,7 +1,8 @@
 use Rattle.std.proofs.Common.{rules, ◌≡◌, Some, None}
 use Rattle.std.specs.List.{position}
 use Rattle.lvs_model.specs.Lookups.{has_entry_id}
-use Rattle.lvs_model.proofs.ListLemmas.{update_put, update_missed}
+use Rattle.lvs_model.proofs.ListLemmas.{update_missed}
+use Rattle.lvs_flat.proofs.Updates.{update_put}
 use Rattle.lvs_flat.proofs.entries.put.Goals as goal
 
 pub returns-in-Some : goal.returns-in-Some
