@@ -26,6 +26,3 @@ mod tables;
 mod templates;
 
 pub use flat::Flat;
-
-#[cfg(test)]
-mod tests;
