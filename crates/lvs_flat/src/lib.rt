@@ -26,3 +26,6 @@ mod tables;
 mod templates;
 
 pub use flat::Flat;
+
+#[cfg(test)]
+mod tests;
