@@ -44,5 +44,6 @@ pub mod AdminWords
 pub mod AdminLines
 pub mod SysctlWords
 pub mod Counted
+pub mod WellFormed
 pub mod Lines
 pub mod Scripts
