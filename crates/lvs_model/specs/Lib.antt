@@ -46,3 +46,5 @@ pub mod SysctlWords
 pub mod Counted
 pub mod Lines
 pub mod Scripts
+pub mod Listings
+pub mod Restoring
