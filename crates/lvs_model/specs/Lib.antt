@@ -47,3 +47,5 @@ pub mod Counted
 pub mod WellFormed
 pub mod Lines
 pub mod Scripts
+pub mod Listings
+pub mod Restoring

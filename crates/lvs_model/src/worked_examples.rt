@@ -1,6 +1,7 @@
 //! Worked examples of the definitions, which the prover computes.
 pub mod director;
 pub mod hashes;
+pub mod listings;
 pub mod messages;
 pub mod numbers;
 pub mod picks;
