@@ -46,3 +46,6 @@ pub mod SysctlWords
 pub mod Counted
 pub mod Lines
 pub mod Scripts
+pub mod ReportReading
+pub mod ReportLines
+pub mod FaultLines
