@@ -49,3 +49,6 @@ pub mod Lines
 pub mod Scripts
 pub mod Listings
 pub mod Restoring
+pub mod ReportReading
+pub mod ReportLines
+pub mod FaultLines
