@@ -36,6 +36,7 @@ pub mod Sending
 pub mod Step
 pub mod Snapshots
 pub mod Plans
+pub mod Generated
 pub mod Books
 pub mod Decimals
 pub mod Refusals
