@@ -2,6 +2,7 @@
 pub mod demo;
 pub mod director;
 pub mod hashes;
+pub mod kept;
 pub mod listings;
 pub mod messages;
 pub mod numbers;
@@ -9,5 +10,6 @@ pub mod picks;
 pub mod reading;
 pub mod report;
 pub mod rewriting;
+pub mod scripts;
 pub mod states;
 pub mod words;
