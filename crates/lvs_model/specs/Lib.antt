@@ -49,6 +49,7 @@ pub mod WellFormed
 pub mod Lines
 pub mod Scripts
 pub mod Listings
+pub mod Legal
 pub mod Restoring
 pub mod ReportReading
 pub mod ReportLines
