@@ -4,6 +4,7 @@ ghost use Rattle.lvs_model.specs.Messages.{HasOldFlags};
 ghost use Rattle.std.specs.List.{AllByRecursion};
 ghost use Rattle.lvs_flat.specs.Tables.{state_of};
 ghost use Rattle.lvs_flat.specs.Bounds.{HasRoom};
+ghost use Rattle.lvs_model.specs.Snapshots.{snapshot_of};
 ghost use Rattle.lvs_model.specs.State.{initial};
 ghost use Rattle.lvs_model.specs.Step.{step, IsInRange};
 ghost use Rattle.lvs_model.specs.Counted.{IsCounted};
@@ -14,8 +15,9 @@ use crate::edits::{do_edit, do_set};
 use crate::learning::do_learn;
 use crate::outgoing::do_outgoing;
 use crate::sending::do_send;
+use crate::snapshot::show;
 use crate::tables::Tables;
-use lvs_types::{Addr, Item, NoMemory, Reply};
+use lvs_types::{Addr, Item, NoMemory, Reply, Snapshot};
 use std::alloc::Global;
 use std::marker::Model;
 
@@ -83,6 +85,13 @@ impl Flat {
         ensures { result ≡ self.now.steps }
     {
         self.steps
+    }
+
+    /// All that it keeps, in the order in which listings show it.
+    pub fn snapshot(&self) -> Result<Snapshot, NoMemory>
+        ensures { IfOk result (λ s. s ≡ snapshot_of self.now.state) }
+    {
+        show(self.alloc, &self.tables)
     }
 
     /// Takes an item: the definition's reply, and the definition's next state. For want of memory
