@@ -1,11 +1,8 @@
 -- What a line of ipvsadm(8) words means once all were read: what is looked at after the last word, and the command.
-use Rattle.std.specs.Prelude.{ℕ, Bool, true, false, not, ◌&&◌, ◌==◌, List, [], ◌∷◌, length, Option, Some, None, Result, Ok, Err, if◌then◌else◌, is_some, unwrap_or}
-use Rattle.lvs_types.specs.declared.addr.Addr.{Addr}
-use Rattle.lvs_types.specs.declared.script.WordsCause.{WordsCause}
+use Rattle.std.specs.Prelude.{ℕ, Bool, true, false, not, ◌&&◌, ◌==◌, List, length, Option, None, Result, Ok, if◌then◌else◌, is_some, unwrap_or}
 use Rattle.lvs_types.specs.declared.script.WordsCause.TheVariants as cause
 use Rattle.lvs_types.specs.declared.service.ServiceKey.{ServiceKey}
 use Rattle.lvs_types.specs.declared.service.ServiceKey.TheVariants.{Net, Mark}
-use Rattle.lvs_types.specs.declared.service.Proto.{Proto}
 use Rattle.lvs_types.specs.declared.service.Method.{Method}
 use Rattle.lvs_types.specs.declared.service.Method.TheVariants.{Masq, Tunnel, Direct}
 use Rattle.lvs_types.specs.declared.service.Scheduler.TheVariants.{Wlc}

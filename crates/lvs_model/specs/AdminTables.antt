@@ -1,5 +1,5 @@
 -- The commands, options and schedulers of ipvsadm(8), as tables (this project's profile).
-use Rattle.std.specs.Prelude.{ℕ, Bool, true, false, ◌||◌, ◌==◌, List, [], ◌∷◌, Option, find, codes, bytes_eq}
+use Rattle.std.specs.Prelude.{ℕ, Bool, ◌||◌, ◌==◌, List, [], ◌∷◌, Option, find, codes, bytes_eq}
 use Rattle.std.specs.List.{list_any}
 use Rattle.lvs_types.specs.declared.service.Scheduler.{Scheduler}
 use Rattle.lvs_types.specs.declared.service.Scheduler.TheVariants.{Rr, Wrr, Lc, Wlc, Sed, Nq, Sh, Dh, Fo, Ovf, Mh}

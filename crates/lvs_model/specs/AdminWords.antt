@@ -1,8 +1,7 @@
 -- The words of ipvsadm(8) from left to right (this project's profile): each is an option or the value that the word before asks for, and the first refusal counts.
-use Rattle.std.specs.Prelude.{ℕ, ◌+◌, Bool, true, false, not, ◌&&◌, ◌||◌, ◌==◌, List, [], ◌∷◌, length, drop, flat_map, map, Option, Some, None, Result, Ok, Err, if◌then◌else◌, is_some, unwrap_or, nat_le, codes, bytes_eq, slice_index}
+use Rattle.std.specs.Prelude.{ℕ, ◌+◌, Bool, true, false, not, ◌&&◌, ◌||◌, ◌==◌, List, [], ◌∷◌, length, drop, flat_map, map, Option, Some, None, Result, Ok, if◌then◌else◌, is_some, unwrap_or, nat_le, codes, bytes_eq}
 use Rattle.std.specs.List.{list_all}
 use Rattle.std.specs.Char.{is_ascii_alphabetic}
-use Rattle.lvs_types.specs.declared.script.WordsCause.{WordsCause}
 use Rattle.lvs_types.specs.declared.script.WordsCause.TheVariants as cause
 use Rattle.lvs_types.specs.declared.service.ServiceKey.{ServiceKey}
 use Rattle.lvs_types.specs.declared.service.ServiceKey.TheVariants.{Net, Mark}
@@ -11,7 +10,7 @@ use Rattle.lvs_types.specs.declared.service.Proto.TheVariants.{Tcp, Udp}
 use Rattle.lvs_types.specs.declared.service.Method.{Method}
 use Rattle.lvs_types.specs.declared.service.Method.TheVariants.{Masq, Tunnel, Direct}
 use Rattle.lvs_model.specs.declared.admin.CommandName.{CommandName}
-use Rattle.lvs_model.specs.declared.admin.CommandName.TheVariants.{AddService, EditService, DeleteService, ClearTables, AddServer, EditServer, DeleteServer, ListTables, SaveTables, SetTimeouts, StartDaemon, StopDaemon}
+use Rattle.lvs_model.specs.declared.admin.CommandName.TheVariants.{SetTimeouts, StartDaemon, StopDaemon}
 use Rattle.lvs_model.specs.declared.admin.OptionName.{OptionName}
 use Rattle.lvs_model.specs.declared.admin.OptionName.TheVariants.{TcpService, UdpService, FwmarkService, Scheduling, Persistent, Netmask, OnePacket, RealServer, Gatewaying, Ipip, Masquerading, Weight, UpperThreshold, LowerThreshold, Numeric, Connection, SyncId, McastInterface}
 use Rattle.lvs_model.specs.declared.admin.Awaited.{Awaited}

@@ -1,7 +1,6 @@
 -- Books of rounds: sound, whole and legal.
-use Rattle.std.specs.Prelude.{◌≡◌, ℕ, ◌+◌, ◌-◌, ◌<◌, List, [], ◌∷◌, ◌++◌, Option, Some, None, map, length, slice_get, ◌==◌, Bool}
+use Rattle.std.specs.Prelude.{◌≡◌, ℕ, ◌+◌, List, [], ◌∷◌, Some, None, map, length, slice_get, ◌==◌}
 use Rattle.std.specs.List.{filter}
-use Rattle.lvs_types.specs.declared.addr.Addr.{Addr}
 use Rattle.lvs_types.specs.declared.item.Item.{Item}
 use Rattle.lvs_types.specs.declared.item.Item.TheVariants as item
 use Rattle.lvs_types.specs.declared.reply.Reply.{Reply}
@@ -9,12 +8,10 @@ use Rattle.lvs_types.specs.declared.book.Noted.{Noted}
 use Rattle.lvs_types.specs.declared.book.Placed.{Placed}
 use Rattle.lvs_types.specs.declared.book.RoundBook.{RoundBook}
 use Rattle.lvs_types.specs.declared.book.RoundPlan.{RoundPlan}
-use Rattle.lvs_types.specs.declared.book.Shown.{Shown}
-use Rattle.lvs_types.specs.declared.book.ShownText.{ShownText}
 use Rattle.lvs_types.specs.declared.script.Round.{Round}
 use Rattle.lvs_model.specs.State.{State}
 use Rattle.lvs_model.specs.Step.{step, run}
-use Rattle.lvs_model.specs.Plans.{plan, serial_items}
+use Rattle.lvs_model.specs.Plans.{serial_items}
 
 abbrev pub items_of : List Noted → List Item
 items_of acts = map (λ (act : Noted). act.item) acts

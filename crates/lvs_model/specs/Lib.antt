@@ -36,6 +36,7 @@ pub mod Sending
 pub mod Step
 pub mod Snapshots
 pub mod Plans
+pub mod Generated
 pub mod Books
 pub mod Decimals
 pub mod Refusals
@@ -44,5 +45,11 @@ pub mod AdminWords
 pub mod AdminLines
 pub mod SysctlWords
 pub mod Counted
+pub mod WellFormed
 pub mod Lines
 pub mod Scripts
+pub mod Listings
+pub mod Restoring
+pub mod ReportReading
+pub mod ReportLines
+pub mod FaultLines

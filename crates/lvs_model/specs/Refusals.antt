@@ -1,5 +1,5 @@
 -- A reading of words that stops at the first refusal.
-use Rattle.std.specs.Prelude.{ℕ, Bool, true, false, Option, Some, None, Result, Ok, Err, ⊤}
+use Rattle.std.specs.Prelude.{ℕ, Option, Some, None, Result, Ok, Err}
 use Rattle.lvs_types.specs.declared.script.WordsCause.{WordsCause}
 use Rattle.lvs_model.specs.declared.admin.BadWord.{BadWord}
 

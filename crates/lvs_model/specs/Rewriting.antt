@@ -1,5 +1,5 @@
 -- Rewritten bytes of a forwarded packet: masquerade (RFC 1624) and the tunnel's outer header (RFC 2003).
-use Rattle.std.specs.Prelude.{ℕ, ◌+◌, Bool, true, false, not, ◌&&◌, ◌||◌, ◌==◌, nat_lt, List, [], ◌∷◌, ◌++◌, take, drop, if◌then◌else◌}
+use Rattle.std.specs.Prelude.{ℕ, ◌+◌, Bool, true, false, not, ◌&&◌, ◌||◌, ◌==◌, nat_lt, List, ◌∷◌, ◌++◌, take, drop, if◌then◌else◌}
 use Rattle.lvs_types.specs.declared.addr.Addr.{Addr}
 use Rattle.lvs_types.specs.declared.head.Head.{Head}
 use Rattle.lvs_types.specs.declared.service.Method.{Method}

@@ -1,5 +1,5 @@
 -- The words of a sysctl: its name and its values (the Linux ipvs-sysctl document; the ranges are this project's profile).
-use Rattle.std.specs.Prelude.{ℕ, Bool, true, false, ◌||◌, ◌==◌, List, [], ◌∷◌, ◌++◌, length, take, drop, Option, Some, None, Result, Ok, Err, if◌then◌else◌, ok_or, find, codes, bytes_eq, nat_lt}
+use Rattle.std.specs.Prelude.{ℕ, ◌||◌, ◌==◌, List, [], ◌∷◌, length, take, drop, Option, Result, Ok, Err, if◌then◌else◌, ok_or, find, codes, bytes_eq, nat_lt}
 use Rattle.lvs_types.specs.declared.settings.Setting.{Setting}
 use Rattle.lvs_types.specs.declared.settings.Setting.TheVariants.{ExpireNodest, ExpireQuiescent, SloppyTcp, ReuseMode, SyncThreshold, SyncVersion}
 use Rattle.lvs_types.specs.declared.script.SettingCause.{SettingCause}

@@ -20,6 +20,7 @@ mod service;
 mod settings;
 mod snapshot;
 mod status;
+mod steps;
 mod sync;
 mod template;
 #[cfg(test)]
@@ -44,5 +45,6 @@ pub use service::{Cursor, Method, Proto, Scheduler, Service, ServiceKey};
 pub use settings::{Daemons, Setting, Settings};
 pub use snapshot::Snapshot;
 pub use status::Status;
+pub use steps::Steps;
 pub use sync::{BadSync, Learnt, Message, SyncItem, SyncRecord};
 pub use template::{Template, TemplateKey};

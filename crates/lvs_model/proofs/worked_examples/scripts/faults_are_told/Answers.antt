@@ -1,0 +1,15 @@
+use Rattle.std.proofs.Common.{refl}
+use Rattle.std.specs.Fmt.{digits}
+use Rattle.lvs_model.proofs.worked_examples.scripts.faults_are_told.Goals as goal
+
+pub returns-clause-words : goal.returns-clause-words
+unfolding digits
+returns-clause-words c = refl
+
+pub returns-clause-line : goal.returns-clause-line
+unfolding digits
+returns-clause-line c = refl
+
+pub returns-clause-program : goal.returns-clause-program
+unfolding digits
+returns-clause-program c = refl
