@@ -1,5 +1,5 @@
 //! What the director shows of itself.
-ghost use Rattle.std.specs.Prelude.{◌≡◌, map, not, IfOk};
+ghost use Rattle.std.specs.Prelude.{◌≡◌, ◌++◌, map, not, IfOk};
 ghost use Rattle.std.specs.List.{filter, flat_map};
 ghost use Rattle.lvs_types.specs.declared.dest.Dest.{Dest};
 ghost use Rattle.lvs_types.specs.declared.entry.Entry.{Entry};
@@ -11,6 +11,7 @@ ghost use Rattle.lvs_model.specs.Lookups.{servers_of};
 ghost use Rattle.lvs_model.specs.Counts.{row_of};
 ghost use Rattle.lvs_model.specs.Snapshots.{shown_dests, snapshot_of};
 
+use crate::dests::is_live_of;
 use crate::entries::{count_active, count_inactive};
 use crate::tables::Tables;
 use crate::templates::count_naming;
@@ -59,7 +60,7 @@ fn add_servers(shown: &mut Vec<Dest>, dests: &[Dest], key: ServiceKey) -> Result
     ensures { IfOk result (λ _. shown.new.items ≡ shown.old.items ++ servers_of key dests.now) }
 {
     for d in dests {
-        if d.live && d.service == key {
+        if is_live_of(d, key) {
             shown.push(*d)?;
         }
     }
