@@ -30,5 +30,53 @@ dest_same None id is = absurd cc
 dest_same (Some named) id is = let same : named ≡ id = cc in subst (λ other. dest_id_eq other id ≡ true) (sym same) (nat_same id.0)
 
 -- the entry's server, if it names one, counts at least one entry
-pub Counts : List Entry → Option DestId → Type 0
+abbrev pub Counts : List Entry → Option DestId → Type 0
 Counts es o = (id : DestId) → o ≡ Some id → 1 ≤ total id es
+
+abbrev one_if : Bool → ℕ
+one_if b = cond b 1 0
+
+count_head : (id : DestId) (e : Entry) (es : List Entry) → e.server ≡ Some id → 1 ≤ total id (e ∷ es)
+count_head id e es is =
+    let one = ap one_if (dest_same e.server id is) in
+    omega (arith, total_cons id e es, one)
+
+count_tail : (id : DestId) (e : Entry) (es : List Entry) → 1 ≤ total id es → 1 ≤ total id (e ∷ es)
+count_tail id e es counts = omega (arith, total_cons id e es, counts)
+
+pub named_counts : (es : List Entry) → AllByRecursion (λ (e : Entry). Counts es e.server) es
+named_counts [] = tt
+named_counts (e ∷ es) =
+    ((λ id is. count_head id e es is),
+    all_weaker (λ (f : Entry). Counts es f.server) (λ (f : Entry). Counts (e ∷ es) f.server) es (λ f counts id is. count_tail id e es (counts id is)) (named_counts es))
+
+abbrev pub CountsTemplate : List Template → Option DestId → Type 0
+CountsTemplate ts o = (id : DestId) → o ≡ Some id → 1 ≤ template_count id ts
+
+template_head : (id : DestId) (t : Template) (ts : List Template) → t.server ≡ Some id → 1 ≤ template_count id (t ∷ ts)
+template_head id t ts is =
+    let one = ap one_if (dest_same t.server id is) in
+    omega (arith, count_cons (λ (u : Template). dest_eq u.server id) t ts, one)
+
+template_tail : (id : DestId) (t : Template) (ts : List Template) → 1 ≤ template_count id ts → 1 ≤ template_count id (t ∷ ts)
+template_tail id t ts counts = omega (arith, count_cons (λ (u : Template). dest_eq u.server id) t ts, counts)
+
+pub named_counts_templates : (ts : List Template) → AllByRecursion (λ (t : Template). CountsTemplate ts t.server) ts
+named_counts_templates [] = tt
+named_counts_templates (t ∷ ts) =
+    ((λ id is. template_head id t ts is),
+    all_weaker (λ (u : Template). CountsTemplate ts u.server) (λ (u : Template). CountsTemplate (t ∷ ts) u.server) ts (λ u counts id is. template_tail id t ts (counts id is)) (named_counts_templates ts))
+
+-- a server that is named isn't free to go
+abbrev pub IsKept : List Entry → List Template → Option DestId → Type 0
+IsKept es ts o = (id : DestId) → o ≡ Some id → (refs id es ts == 0) ≡ false
+
+pub entries_kept : (es : List Entry) (ts : List Template) → AllByRecursion (λ (e : Entry). IsKept es ts e.server) es
+entries_kept es ts =
+    all_weaker (λ (e : Entry). Counts es e.server) (λ (e : Entry). IsKept es ts e.server) es
+    (λ e counts id is. ne_eqb (refs id es ts) 0 (λ none. absurd (omega (arith, counts id is, none)))) (named_counts es)
+
+pub templates_kept : (es : List Entry) (ts : List Template) → AllByRecursion (λ (t : Template). IsKept es ts t.server) ts
+templates_kept es ts =
+    all_weaker (λ (t : Template). CountsTemplate ts t.server) (λ (t : Template). IsKept es ts t.server) ts
+    (λ t counts id is. ne_eqb (refs id es ts) 0 (λ none. absurd (omega (arith, counts id is, none)))) (named_counts_templates ts)

@@ -5,3 +5,5 @@ pub mod Finds
 pub mod Ids
 pub mod Parts
 pub mod Counting
+pub mod Alike
+pub mod AlikeStates
