@@ -116,19 +116,19 @@ update_alike p f (d ∷ ds) each =
     let Q : Bool → Type 0 = λ b. (b ≡ true → IsAlike d (f d)) → AreAlike (d ∷ ds) (cond b (f d ∷ ds) (d ∷ update_first p f ds)) in
     (elim (p d) as Q [ true ↦ (λ here. (here refl, all_alike_itself ds)) | false ↦ (λ here. (alike_itself d, update_alike p f ds each)) ]) (each d)
 
-ids_alike : (ds later : List Dest) → AreAlike ds later → dest_ids later ≡ dest_ids ds
+pub ids_alike : (ds later : List Dest) → AreAlike ds later → dest_ids later ≡ dest_ids ds
 ids_alike [] [] alike = refl
 ids_alike [] (other ∷ others) alike = absurd alike
 ids_alike (d ∷ ds) [] alike = absurd alike
 ids_alike (d ∷ ds) (other ∷ others) alike = let first = alike.0.id in let rest = ids_alike ds others alike.1 in cc
 
-places_alike : (ds later : List Dest) → AreAlike ds later → places later ≡ places ds
+pub places_alike : (ds later : List Dest) → AreAlike ds later → places later ≡ places ds
 places_alike [] [] alike = refl
 places_alike [] (other ∷ others) alike = absurd alike
 places_alike (d ∷ ds) [] alike = absurd alike
 places_alike (d ∷ ds) (other ∷ others) alike = let first : place_of other ≡ place_of d = alike.0.place in let rest = places_alike ds others alike.1 in ap (λ place. place ∷ places others) first ∙ ap (λ rest_places. place_of d ∷ rest_places) rest
 
-all_alike : (P Q : Dest → Type 0) (ds later : List Dest) → ((d other : Dest) → IsAlike d other → P d → Q other) → AreAlike ds later → AllByRecursion P ds → AllByRecursion Q later
+pub all_alike : (P Q : Dest → Type 0) (ds later : List Dest) → ((d other : Dest) → IsAlike d other → P d → Q other) → AreAlike ds later → AllByRecursion P ds → AllByRecursion Q later
 all_alike P Q [] [] step alike each = tt
 all_alike P Q [] (other ∷ others) step alike each = absurd alike
 all_alike P Q (d ∷ ds) [] step alike each = absurd alike

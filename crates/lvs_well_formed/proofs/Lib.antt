@@ -7,3 +7,6 @@ pub mod Parts
 pub mod Counting
 pub mod Alike
 pub mod AlikeStates
+pub mod Entries
+pub mod Bindings
+pub mod Templates
