@@ -4,7 +4,7 @@ use Rattle.std.specs.List.{AllByRecursion, find, filter, filter_map, cons_option
 use Rattle.lvs_model.specs.Lists.{update_first, without}
 
 -- where the first one that passes stands, by cases
-find_cases : {X : Type 0} (b : Bool) (x y : X) (o : Option X) (Q : Type 0) → cond b (Some y) o ≡ Some x → (b ≡ true → y ≡ x → Q) → (b ≡ false → o ≡ Some x → Q) → Q
+pub find_cases : {X : Type 0} (b : Bool) (x y : X) (o : Option X) (Q : Type 0) → cond b (Some y) o ≡ Some x → (b ≡ true → y ≡ x → Q) → (b ≡ false → o ≡ Some x → Q) → Q
 find_cases true x y o Q is here there = here refl (cc)
 find_cases false x y o Q is here there = there refl is
 

@@ -1,6 +1,6 @@
 -- The tests of equality of keys decide equality.
-use Rattle.std.proofs.Common.{◌≡◌, ◌==◌, ℕ, Bool, true, false, ◌&&◌, Option, Some, None, refl, sym, ap, ◌∙◌, nat_eq, arith}
-use Rattle.std.proofs.lemmas.Bool.{and_parts, eqb-true, eq-eqb}
+use Rattle.std.proofs.Common.{◌≡◌, ◌==◌, ℕ, Bool, true, false, ◌&&◌, Option, Some, None, refl, sym, ap, subst, ◌∙◌, nat_eq, arith}
+use Rattle.std.proofs.lemmas.Bool.{and_parts, both_ways, eqb-true, eq-eqb, false_from_ne_true}
 use Rattle.lvs_types.specs.declared.addr.Addr.{Addr}
 use Rattle.lvs_types.specs.declared.addr.DestId.{DestId}
 use Rattle.lvs_types.specs.declared.addr.TemplateId.{TemplateId}
@@ -43,3 +43,50 @@ key_same k =
     (both_same (proto_eq k.proto k.proto && addr_eq k.caddr k.caddr) (k.cport == k.cport) (both_same (proto_eq k.proto k.proto) (addr_eq k.caddr k.caddr) (proto_same k.proto) (addr_same k.caddr)) (nat_same k.cport))
     (addr_same k.vaddr))
     (nat_same k.vport)
+
+pub key_true : (a b : Key) → key_eq a b ≡ true → a ≡ b
+key_true a b is =
+    let last = and_parts (((proto_eq a.proto b.proto && addr_eq a.caddr b.caddr) && (a.cport == b.cport)) && addr_eq a.vaddr b.vaddr) (a.vport == b.vport) is in
+    let fourth = and_parts ((proto_eq a.proto b.proto && addr_eq a.caddr b.caddr) && (a.cport == b.cport)) (addr_eq a.vaddr b.vaddr) last.0 in
+    let third = and_parts (proto_eq a.proto b.proto && addr_eq a.caddr b.caddr) (a.cport == b.cport) fourth.0 in
+    let second = and_parts (proto_eq a.proto b.proto) (addr_eq a.caddr b.caddr) third.0 in
+    let proto = proto_true a.proto b.proto second.0 in
+    let caddr = addr_true a.caddr b.caddr second.1 in
+    let cport = eqb-true a.cport b.cport third.1 in
+    let vaddr = addr_true a.vaddr b.vaddr fourth.1 in
+    let vport = eqb-true a.vport b.vport last.1 in
+    ap (λ (x : Proto). let k : Key = record { proto = x; caddr = a.caddr; cport = a.cport; vaddr = a.vaddr; vport = a.vport } in k) proto
+    ∙ ap (λ (x : Addr). let k : Key = record { proto = b.proto; caddr = x; cport = a.cport; vaddr = a.vaddr; vport = a.vport } in k) caddr
+    ∙ ap (λ (x : ℕ). let k : Key = record { proto = b.proto; caddr = b.caddr; cport = x; vaddr = a.vaddr; vport = a.vport } in k) cport
+    ∙ ap (λ (x : Addr). let k : Key = record { proto = b.proto; caddr = b.caddr; cport = b.cport; vaddr = x; vport = a.vport } in k) vaddr
+    ∙ ap (λ (x : ℕ). let k : Key = record { proto = b.proto; caddr = b.caddr; cport = b.cport; vaddr = b.vaddr; vport = x } in k) vport
+
+-- keys that differ do so the other way round
+pub key_flip : (a b : Key) → key_eq a b ≡ false → key_eq b a ≡ false
+key_flip a b differs =
+    false_from_ne_true (key_eq b a) (λ same. let equal = key_true b a same in both_ways (key_eq a b) differs (subst (λ k. key_eq k b ≡ true) equal (key_same b)))
+
+pub service_key_same : (k : ServiceKey) → service_key_eq k k ≡ true
+service_key_same (Net proto addr port) =
+    both_same (proto_eq proto proto && addr_eq addr addr) (port == port) (both_same (proto_eq proto proto) (addr_eq addr addr) (proto_same proto) (addr_same addr)) (nat_same port)
+service_key_same (Mark mark) = nat_same mark
+
+pub service_key_true : (a b : ServiceKey) → service_key_eq a b ≡ true → a ≡ b
+service_key_true (Net proto addr port) (Net proto_b addr_b port_b) is =
+    let last = and_parts (proto_eq proto proto_b && addr_eq addr addr_b) (port == port_b) is in
+    let first = and_parts (proto_eq proto proto_b) (addr_eq addr addr_b) last.0 in
+    let protos = proto_true proto proto_b first.0 in
+    let addrs = addr_true addr addr_b first.1 in
+    let ports = eqb-true port port_b last.1 in
+    ap (λ (x : Proto). Net x addr port) protos ∙ ap (λ (x : Addr). Net proto_b x port) addrs ∙ ap (λ (x : ℕ). Net proto_b addr_b x) ports
+service_key_true (Net proto addr port) (Mark mark) is = absurd cc
+service_key_true (Mark mark) (Net proto addr port) is = absurd cc
+service_key_true (Mark mark) (Mark other) is = ap (λ (x : ℕ). Mark x) (eqb-true mark other is)
+
+pub service_key_flip : (a b : ServiceKey) → service_key_eq a b ≡ false → service_key_eq b a ≡ false
+service_key_flip a b differs =
+    false_from_ne_true (service_key_eq b a)
+    (λ same. let equal = service_key_true b a same in both_ways (service_key_eq a b) differs (subst (λ k. service_key_eq k b ≡ true) equal (service_key_same b)))
+
+pub dest_id_true : (a b : DestId) → dest_id_eq a b ≡ true → a ≡ b
+dest_id_true a b is = let numbers = eqb-true a.0 b.0 is in ap (λ (n : ℕ). let id : DestId = record { 0 = n } in id) numbers

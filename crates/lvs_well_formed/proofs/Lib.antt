@@ -10,3 +10,5 @@ pub mod AlikeStates
 pub mod Entries
 pub mod Bindings
 pub mod Templates
+pub mod Free
+pub mod Forwards
