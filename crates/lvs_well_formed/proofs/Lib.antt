@@ -12,3 +12,5 @@ pub mod Bindings
 pub mod Templates
 pub mod Free
 pub mod Forwards
+pub mod Picks
+pub mod Schedules
