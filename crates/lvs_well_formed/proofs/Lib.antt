@@ -14,3 +14,6 @@ pub mod Free
 pub mod Forwards
 pub mod Picks
 pub mod Schedules
+pub mod Packets
+pub mod Learns
+pub mod Clocks
