@@ -17,3 +17,5 @@ pub mod Schedules
 pub mod Packets
 pub mod Learns
 pub mod Clocks
+pub mod Removals
+pub mod Services
