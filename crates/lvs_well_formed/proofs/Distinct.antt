@@ -80,3 +80,19 @@ each_found eq key (x ∷ xs) same apart =
     all_both (λ z. eq (key x) (key z) ≡ false) (λ z. find (λ y. eq (key y) (key z)) xs ≡ Some z) (λ z. find (λ y. eq (key y) (key z)) (x ∷ xs) ≡ Some z) xs
     (λ z differs is. itself_step (eq (key x) (key z)) x z (find (λ y. eq (key y) (key z)) xs) differs is)
     (all_unmap (λ k. eq (key x) k ≡ false) key xs parts.0) (each_found eq key xs same parts.1))
+
+-- once the one that passes has left, the keys of the others are apart from its key
+pub others_apart : {X K : Type 0} (eq : K → K → Bool) (key : X → K) (p : X → Bool) (xs : List X) (x : X) → ((a b : K) → eq a b ≡ false → eq b a ≡ false) → IsDistinct eq (map key xs) → find p xs ≡ Some x
+    → AllByRecursion (λ z. eq (key z) (key x) ≡ false) (filter (λ z. not (p z)) xs)
+others_apart eq key p [] x flip apart found = tt
+others_apart eq key p (y ∷ ys) x flip apart found =
+    let parts = distinct_parts eq (key y) (map key ys) apart in
+    let differ = all_unmap (λ k. eq (key y) k ≡ false) key ys parts.0 in
+    let M : Bool → Type 0 = λ b. cond b (Some y) (find p ys) ≡ Some x → AllByRecursion (λ z. eq (key z) (key x) ≡ false) (cond (not b) (y ∷ filter (λ z. not (p z)) ys) (filter (λ z. not (p z)) ys)) in
+    (elim (p y) as M [
+      true ↦ (λ here.
+        let same : y ≡ x = cc in
+        all_filter (λ z. eq (key z) (key x) ≡ false) (λ z. not (p z)) ys
+        (all_weaker (λ z. eq (key y) (key z) ≡ false) (λ z. eq (key z) (key x) ≡ false) ys (λ z other. subst (λ w. eq (key z) (key w) ≡ false) same (flip (key y) (key z) other)) differ))
+      | false ↦ (λ later. (all_find (λ z. eq (key y) (key z) ≡ false) p ys x differ later, others_apart eq key p ys x flip parts.1 later))
+    ]) found

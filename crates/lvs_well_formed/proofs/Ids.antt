@@ -5,7 +5,7 @@ use Rattle.std.specs.List.{AllByRecursion, IsDistinct, find, filter, filter_map,
 use Rattle.lvs_model.specs.Lists.{update_first, without}
 use Rattle.lvs_model.specs.WellFormed.{AreDrawn, IsDrawn}
 use Rattle.lvs_well_formed.specs.Rising.{Rises, IsNewOrAmong, is_among}
-use Rattle.lvs_well_formed.proofs.Lists.{all_weaker, all_true, all_both, all_map, all_unmap, all_append, all_filter, all_filter_map, all_find}
+use Rattle.lvs_well_formed.proofs.Lists.{all_weaker, all_true, all_both, all_map, all_unmap, all_append, all_filter, all_passing, all_filter_map, all_find}
 use Rattle.lvs_well_formed.proofs.Distinct.{distinct_push, distinct_filter, distinct_filter_map, keys_update}
 use Rattle.lvs_well_formed.proofs.Keys.{nat_same}
 
@@ -118,3 +118,22 @@ goes_push next key xs y is drawn =
 not_false : (b : Bool) → not b ≡ true → b ≡ false
 not_false true is = absurd cc
 not_false false is = refl
+
+-- an id that stands last instead
+pub goes_moved : {X : Type 0} (next : ℕ) (key : X → ℕ) (xs : List X) (y : X) → is_among (map key xs) (key y) ≡ true → AreDrawn next (map key xs) → GoesOn next (map key xs) next (map key (filter (λ x. not (key x == key y)) xs ++ y ∷ []))
+goes_moved {X} next key xs y old drawn =
+    let test : X → Bool = λ x. not (key x == key y) in
+    let rest = filter test xs in
+    let ids = map key xs in
+    let left = goes_filter next key test xs drawn in
+    record {
+      drawn = record {
+        begins = drawn.begins;
+        each = all_map (IsDrawn next) key (rest ++ y ∷ []) (all_append (λ x. IsDrawn next (key x)) rest (y ∷ []) (all_unmap (IsDrawn next) key rest left.drawn.each) (among_all (IsDrawn next) ids (key y) drawn.each old, tt));
+        apart = distinct_push nat_eq key rest y (all_passing (λ x. is_among ids (key x) ≡ true) (λ x. nat_eq (key x) (key y) ≡ false) test xs (λ x differs _. not_false (nat_eq (key x) (key y)) differs) (all_unmap (λ id. is_among ids id ≡ true) key xs (all_among ids))) left.drawn.apart;
+      };
+      rises = record {
+        next_id = omega arith;
+        each = all_map (IsNewOrAmong next ids) key (rest ++ y ∷ []) (all_append (λ x. IsNewOrAmong next ids (key x)) rest (y ∷ []) (all_unmap (IsNewOrAmong next ids) key rest left.rises.each) ((λ below. old), tt));
+      };
+    }

@@ -90,3 +90,21 @@ service_key_flip a b differs =
 
 pub dest_id_true : (a b : DestId) → dest_id_eq a b ≡ true → a ≡ b
 dest_id_true a b is = let numbers = eqb-true a.0 b.0 is in ap (λ (n : ℕ). let id : DestId = record { 0 = n } in id) numbers
+
+pub place_same : (a : Place) → place_eq a a ≡ true
+place_same a = both_same (service_key_eq a.service a.service && addr_eq a.addr a.addr) (a.port == a.port) (both_same (service_key_eq a.service a.service) (addr_eq a.addr a.addr) (service_key_same a.service) (addr_same a.addr)) (nat_same a.port)
+
+pub place_true : (a b : Place) → place_eq a b ≡ true → a ≡ b
+place_true a b is =
+    let last = and_parts (service_key_eq a.service b.service && addr_eq a.addr b.addr) (a.port == b.port) is in
+    let first = and_parts (service_key_eq a.service b.service) (addr_eq a.addr b.addr) last.0 in
+    let services = service_key_true a.service b.service first.0 in
+    let addrs = addr_true a.addr b.addr first.1 in
+    let ports = eqb-true a.port b.port last.1 in
+    ap (λ (x : ServiceKey). let place : Place = record { service = x; addr = a.addr; port = a.port } in place) services
+    ∙ ap (λ (x : Addr). let place : Place = record { service = b.service; addr = x; port = a.port } in place) addrs
+    ∙ ap (λ (x : ℕ). let place : Place = record { service = b.service; addr = b.addr; port = x } in place) ports
+
+pub place_flip : (a b : Place) → place_eq a b ≡ false → place_eq b a ≡ false
+place_flip a b differs =
+    false_from_ne_true (place_eq b a) (λ same. let equal = place_true b a same in both_ways (place_eq a b) differs (subst (λ place. place_eq place b ≡ true) equal (place_same b)))

@@ -19,3 +19,8 @@ pub mod Learns
 pub mod Clocks
 pub mod Removals
 pub mod Services
+pub mod ServerRemovals
+pub mod Revivals
+pub mod Servers
+pub mod Edits
+pub mod Steps

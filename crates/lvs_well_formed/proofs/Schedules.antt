@@ -45,7 +45,7 @@ IsNew s p = IsFree s (key_of p.proto p.head)
 -- THE CURSOR
 
 -- the keys of the services, and whether each is there, stay with the keys
-has_service_same : (services later : List Service) (key : ServiceKey) → service_keys later ≡ service_keys services → list_any (has_service_key key) later ≡ list_any (has_service_key key) services
+pub has_service_same : (services later : List Service) (key : ServiceKey) → service_keys later ≡ service_keys services → list_any (has_service_key key) later ≡ list_any (has_service_key key) services
 has_service_same [] [] key same = refl
 has_service_same [] (other ∷ others) key same = absurd cc
 has_service_same (x ∷ xs) [] key same = absurd cc

@@ -85,7 +85,7 @@ other_service key services d stays has live =
     (λ x here. not_true (service_key_eq x.key key) (subst (λ k. service_key_eq k key ≡ false) (sym (service_key_true x.key d.service here)) differs)) (has live)
 
 -- a live server of one service isn't one of another
-other_server : (key other : ServiceKey) (d : Dest) → service_key_eq other key ≡ false → is_server_of other d ≡ true → is_server_of key d ≡ false
+pub other_server : (key other : ServiceKey) (d : Dest) → service_key_eq other key ≡ false → is_server_of other d ≡ true → is_server_of key d ≡ false
 other_server key other d differs live =
     false_from_ne_true (is_server_of key d)
     (λ is.
