@@ -1,0 +1,4 @@
+//! A director's state stays well formed: laws of the definitions.
+#![tactic(auto)]
+
+pub mod laws;
