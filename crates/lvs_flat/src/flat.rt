@@ -8,6 +8,7 @@ ghost use Rattle.lvs_model.specs.Snapshots.{snapshot_of};
 ghost use Rattle.lvs_model.specs.State.{initial};
 ghost use Rattle.lvs_model.specs.Step.{step, IsInRange};
 ghost use Rattle.lvs_model.specs.Counted.{IsCounted};
+ghost use Rattle.lvs_model.specs.WellFormed.{IsWellFormed};
 
 use crate::arriving::do_incoming;
 use crate::clock::{do_reap, do_sweep, do_tick};
@@ -37,10 +38,11 @@ impl Model for Flat {
 
     ghost use Rattle.lvs_flat.specs.Tables.{state_of};
     ghost use Rattle.lvs_model.specs.Counted.{IsCounted};
+    ghost use Rattle.lvs_model.specs.WellFormed.{IsWellFormed};
 
     ghost view = { λ f. record { state = state_of f.tables; steps = f.steps } };
 
-    ghost invariant = { λ f. IsCounted f.steps (state_of f.tables) };
+    ghost invariant = { λ f. IsCounted f.steps (state_of f.tables) × IsWellFormed (state_of f.tables) };
 }
 
 fn do_step(alloc: Global, tables: &mut Tables, item: &Item) -> Result<Reply, NoMemory>
@@ -87,9 +89,10 @@ impl Flat {
         self.steps
     }
 
-    /// All that it keeps, in the order in which listings show it.
+    /// All that it keeps, in the order in which listings show it. Its state is well formed.
     pub fn snapshot(&self) -> Result<Snapshot, NoMemory>
-        ensures { IfOk result (λ s. s ≡ snapshot_of self.now.state) }
+        ensures shown { IfOk result (λ s. s ≡ snapshot_of self.now.state) }
+        ensures well_formed { IsWellFormed self.now.state }
     {
         show(self.alloc, &self.tables)
     }
