@@ -24,3 +24,5 @@ pub mod Revivals
 pub mod Servers
 pub mod Edits
 pub mod Steps
+pub mod Leaves
+pub mod PacketLeaves
