@@ -108,3 +108,9 @@ place_true a b is =
 pub place_flip : (a b : Place) → place_eq a b ≡ false → place_eq b a ≡ false
 place_flip a b differs =
     false_from_ne_true (place_eq b a) (λ same. let equal = place_true b a same in both_ways (place_eq a b) differs (subst (λ place. place_eq place b ≡ true) equal (place_same b)))
+
+pub template_key_same : (k : TemplateKey) → template_key_eq k k ≡ true
+template_key_same k =
+    both_same (((k.code == k.code) && addr_eq k.client k.client) && addr_eq k.vaddr k.vaddr) (k.vport == k.vport)
+    (both_same ((k.code == k.code) && addr_eq k.client k.client) (addr_eq k.vaddr k.vaddr) (both_same (k.code == k.code) (addr_eq k.client k.client) (nat_same k.code) (addr_same k.client)) (addr_same k.vaddr))
+    (nat_same k.vport)

@@ -24,3 +24,6 @@ pub mod Revivals
 pub mod Servers
 pub mod Edits
 pub mod Steps
+pub mod Found
+pub mod Leaves
+pub mod PacketLeaves
