@@ -1,24 +1,18 @@
 -- Lists of servers that agree in all but what overloads them: whatever names a server finds it in both.
-use Rattle.std.proofs.Common.{◌≡◌, ◌==◌, ℕ, Bool, true, false, cond, not, ◌&&◌, ◌||◌, List, [], ◌∷◌, ◌++◌, Option, Some, None, refl, sym, ap, subst, map, is_some, ◌∙◌, nat_eq}
-use Rattle.std.specs.List.{AllByRecursion, IsDistinct, find, filter, filter_map, list_any}
+use Rattle.std.proofs.Common.{◌≡◌, ◌==◌, ℕ, Bool, true, false, cond, ◌&&◌, ◌||◌, List, [], ◌∷◌, Option, Some, None, refl, sym, ap, subst, map, is_some, ◌∙◌}
+use Rattle.std.specs.List.{AllByRecursion}
 use Rattle.lvs_types.specs.declared.addr.Addr.{Addr}
 use Rattle.lvs_types.specs.declared.addr.DestId.{DestId}
-use Rattle.lvs_types.specs.declared.service.ServiceKey.{ServiceKey}
-use Rattle.lvs_types.specs.declared.service.Service.{Service}
 use Rattle.lvs_types.specs.declared.dest.Dest.{Dest}
-use Rattle.lvs_types.specs.declared.dest.DestSpec.{DestSpec}
 use Rattle.lvs_types.specs.declared.entry.Entry.{Entry}
 use Rattle.lvs_types.specs.declared.template.Template.{Template}
-use Rattle.lvs_model.specs.State.{State}
-use Rattle.lvs_model.specs.Same.{addr_eq, dest_id_eq, service_key_eq}
-use Rattle.lvs_model.specs.Lists.{update_first, without}
-use Rattle.lvs_model.specs.Lookups.{dest_at, has_dest_id, is_server_of, has_service_key}
-use Rattle.lvs_model.specs.Binding.{serves_at}
-use Rattle.lvs_model.specs.Edits.{has_bad_thresholds}
+use Rattle.lvs_model.specs.Same.{addr_eq}
+use Rattle.lvs_model.specs.Lists.{update_first}
+use Rattle.lvs_model.specs.Lookups.{dest_at}
 use Rattle.lvs_model.specs.Incoming.{server_named}
-use Rattle.lvs_model.specs.WellFormed.{IsThere, IsLastOf, is_live_server, GoesTo, HasService, HasCursor, HasGoodThresholds, HasServer, TemplateHasServer, place_of, Place, place_eq, dest_ids, places}
-use Rattle.lvs_well_formed.proofs.Lists.{all_weaker, all_both, all_true}
-use Rattle.lvs_well_formed.proofs.Parts.{AreServices, AreDests, AreEntries, AreTemplates, IsSound}
+use Rattle.lvs_model.specs.WellFormed.{IsThere, GoesTo, HasGoodThresholds, TemplateHasServer, place_of, Place, dest_ids, places}
+use Rattle.lvs_well_formed.proofs.Lists.{all_both}
+use Rattle.lvs_well_formed.proofs.Parts.{AreEntries, AreTemplates, IsSound}
 
 -- the server that was found is found, at the same place
 abbrev pub Stays : Option Dest → Option Dest → Type 0
@@ -30,6 +24,10 @@ Stays (Some d) (Some later) = place_of later ≡ place_of d
 pub stays_from : (o later : Option Dest) → ((d : Dest) → o ≡ Some d → Stays (Some d) later) → Stays o later
 stays_from None later each = tt
 stays_from (Some d) later each = each d refl
+
+pub found_stays : (d later : Dest) (o : Option Dest) → o ≡ Some later → place_of later ≡ place_of d → Stays (Some d) o
+found_stays d later None is place = absurd cc
+found_stays d later (Some other) is place = let same : other ≡ later = cc in ap place_of same ∙ place
 
 there_kept : (o later : Option Dest) → Stays o later → is_some o ≡ true → is_some later ≡ true
 there_kept None later kept is = absurd cc

@@ -1,6 +1,6 @@
 -- A change of what overloads the servers, or of a specification at its place, keeps the state well formed.
-use Rattle.std.proofs.Common.{◌≡◌, ◌==◌, ℕ, Bool, true, false, cond, not, ◌&&◌, ◌||◌, List, [], ◌∷◌, ◌++◌, Option, Some, None, refl, sym, ap, subst, map, is_some, ◌∙◌, nat_eq}
-use Rattle.std.specs.List.{AllByRecursion, IsDistinct, find, filter, list_any}
+use Rattle.std.proofs.Common.{◌≡◌, ℕ, Bool, true, false, cond, ◌&&◌, List, [], ◌∷◌, Option, Some, None, refl, sym, ap, subst, map}
+use Rattle.std.specs.List.{IsDistinct, list_any}
 use Rattle.lvs_types.specs.declared.addr.DestId.{DestId}
 use Rattle.lvs_types.specs.declared.service.ServiceKey.{ServiceKey}
 use Rattle.lvs_types.specs.declared.service.Service.{Service}
@@ -9,17 +9,15 @@ use Rattle.lvs_types.specs.declared.entry.Entry.{Entry}
 use Rattle.lvs_types.specs.declared.template.Template.{Template}
 use Rattle.lvs_model.specs.State.{State}
 use Rattle.lvs_model.specs.Same.{dest_id_eq, service_key_eq}
-use Rattle.lvs_model.specs.Lists.{update_first, without}
-use Rattle.lvs_model.specs.Lookups.{dest_at, has_dest_id, is_server_of, has_service_key}
+use Rattle.lvs_model.specs.Lookups.{dest_at, has_dest_id, has_service_key}
 use Rattle.lvs_model.specs.Binding.{count_bound, count_ended}
 use Rattle.lvs_model.specs.Clock.{after_ends, is_named_in}
 use Rattle.lvs_model.specs.Counts.{total}
 use Rattle.lvs_model.specs.Overload.{overload_ended}
-use Rattle.lvs_model.specs.WellFormed.{AreDrawn, IsThere, IsLastOf, is_live_server, HasService, HasCursor, HasGoodThresholds, place_of, Place, place_eq, dest_ids, places}
-use Rattle.lvs_well_formed.specs.Rising.{IdsRise}
-use Rattle.lvs_well_formed.proofs.Lists.{all_weaker, all_both, all_true}
-use Rattle.lvs_well_formed.proofs.Ids.{rises_same, goes_equal}
-use Rattle.lvs_well_formed.proofs.Parts.{AreServices, AreDests, AreEntries, AreTemplates, IsSound, Parts, After, ids_stay}
+use Rattle.lvs_model.specs.WellFormed.{AreDrawn, IsLastOf, is_live_server, HasService, HasCursor, HasGoodThresholds, place_of, Place, place_eq, dest_ids}
+use Rattle.lvs_well_formed.proofs.Lists.{all_weaker, all_true}
+use Rattle.lvs_well_formed.proofs.Ids.{goes_equal}
+use Rattle.lvs_well_formed.proofs.Parts.{AreServices, AreDests, Parts, After, ids_stay}
 use Rattle.lvs_well_formed.proofs.Alike.{Stays, StaysNamed, IsAlike, AreAlike, ids_alike, places_alike, all_alike, all_alike_itself, all_named, entries_stay, templates_stay, update_alike, map_alike}
 
 -- what is found of alike lists

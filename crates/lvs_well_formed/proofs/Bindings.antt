@@ -1,23 +1,20 @@
 -- Binding an entry or a template keeps the state well formed.
-use Rattle.std.proofs.Common.{◌≡◌, ◌==◌, ◌<◌, ◌+◌, ℕ, Bool, true, false, cond, not, ◌&&◌, ◌||◌, List, [], ◌∷◌, ◌++◌, Option, Some, None, refl, sym, ap, subst, map, is_some, is_none, ◌∙◌, nat_eq}
+use Rattle.std.proofs.Common.{◌≡◌, ℕ, true, ◌&&◌, Option, Some, None, refl, ap, is_some}
 use Rattle.std.proofs.lemmas.Bool.{and_parts}
-use Rattle.std.specs.List.{AllByRecursion, IsDistinct, find, filter}
 use Rattle.lvs_types.specs.declared.addr.Addr.{Addr}
 use Rattle.lvs_types.specs.declared.addr.DestId.{DestId}
 use Rattle.lvs_types.specs.declared.service.Service.{Service}
 use Rattle.lvs_types.specs.declared.dest.Dest.{Dest}
-use Rattle.lvs_types.specs.declared.entry.Key.{Key}
 use Rattle.lvs_types.specs.declared.entry.Entry.{Entry}
 use Rattle.lvs_types.specs.declared.template.Template.{Template}
 use Rattle.lvs_model.specs.State.{State}
-use Rattle.lvs_model.specs.Lists.{update_first, without}
-use Rattle.lvs_model.specs.Lookups.{dest_at, has_entry_id, has_key, find_service, is_server_of}
+use Rattle.lvs_model.specs.Lookups.{dest_at, has_entry_id, find_service, is_server_of}
 use Rattle.lvs_model.specs.Binding.{put_entry, serves_at, count_bound, bound_to, bind_entry, try_binding, binding_in, server_for_entry, template_service, server_for_template, template_tried, bind_template}
-use Rattle.lvs_model.specs.WellFormed.{IsThere, TemplateHasServer}
+use Rattle.lvs_model.specs.WellFormed.{TemplateHasServer}
 use Rattle.lvs_well_formed.proofs.Lists.{all_find, find_passes}
 use Rattle.lvs_well_formed.proofs.Finds.{find_put}
 use Rattle.lvs_well_formed.proofs.Keys.{nat_same}
-use Rattle.lvs_well_formed.proofs.Parts.{IsSound, Parts, After, stays, then_after}
+use Rattle.lvs_well_formed.proofs.Parts.{Parts, After, stays, then_after}
 use Rattle.lvs_well_formed.proofs.AlikeStates.{with_alike, bound_alike}
 use Rattle.lvs_well_formed.proofs.Entries.{dests_found, IsEntryOf, entry_sound, sound_at, with_entry_put}
 
@@ -49,7 +46,7 @@ bind_tried s e (Some d) found serves is p =
     let sound = sound_at s.next_template s.dests bound d (found d refl) (serves d refl) refl old.template old.state in
     record {
       after = then_after s put (bind_entry s e (Some d)).1 (with_entry_put s e bound is refl refl sound p)
-        (λ q. with_alike put (count_bound d.id entries s.dests) (bound_alike d.id entries s.dests) q);
+          (λ q. with_alike put (count_bound d.id entries s.dests) (bound_alike d.id entries s.dests) q);
       found = find_put (has_entry_id e.id) bound s.entries e is (nat_same e.id);
       key = refl;
     }

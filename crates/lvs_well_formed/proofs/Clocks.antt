@@ -1,12 +1,11 @@
 -- The clock, a sweep and a reap keep the state well formed.
-use Rattle.std.proofs.Common.{◌≡◌, ◌==◌, ℕ, ◌+◌, Bool, true, false, cond, not, ◌&&◌, List, [], ◌∷◌, Option, Some, None, refl, sym, ap, subst, ◌∙◌, map}
+use Rattle.std.proofs.Common.{◌≡◌, ◌==◌, ℕ, Bool, true, false, cond, not, ◌&&◌, List, Option, Some, None, refl, sym, subst, map}
 use Rattle.std.proofs.lemmas.Bool.{and_parts}
-use Rattle.std.specs.List.{AllByRecursion, IsDistinct, find, filter, filter_map}
+use Rattle.std.specs.List.{filter}
 use Rattle.lvs_types.specs.declared.addr.DestId.{DestId}
 use Rattle.lvs_types.specs.declared.settings.Settings.{Settings}
 use Rattle.lvs_types.specs.declared.settings.Daemons.{Daemons}
 use Rattle.lvs_types.specs.declared.service.ServiceKey.{ServiceKey}
-use Rattle.lvs_types.specs.declared.service.Service.{Service}
 use Rattle.lvs_types.specs.declared.dest.Dest.{Dest}
 use Rattle.lvs_types.specs.declared.entry.Entry.{Entry}
 use Rattle.lvs_types.specs.declared.template.Template.{Template}
@@ -14,7 +13,7 @@ use Rattle.lvs_model.specs.State.{State}
 use Rattle.lvs_model.specs.Same.{service_key_eq}
 use Rattle.lvs_model.specs.Lists.{without}
 use Rattle.lvs_model.specs.Counts.{refs}
-use Rattle.lvs_model.specs.Lookups.{dest_at, has_dest_id, is_server_of}
+use Rattle.lvs_model.specs.Lookups.{dest_at, has_dest_id}
 use Rattle.lvs_model.specs.Clock.{is_swept, after_ends, sweep, is_over, is_held, held_longer, reaped_template, reaped_templates, is_released, reap}
 use Rattle.lvs_model.specs.WellFormed.{HasService, HasCursor, HasGoodThresholds, IsLastOf, is_live_server, place_eq, place_of}
 use Rattle.lvs_well_formed.proofs.Lists.{all_weaker, all_filter, find_passes}
@@ -24,7 +23,7 @@ use Rattle.lvs_well_formed.proofs.Keys.{dest_id_true}
 use Rattle.lvs_well_formed.proofs.Ids.{goes_filter}
 use Rattle.lvs_well_formed.proofs.Parts.{Parts, After, ids_stay, stays, then_after}
 use Rattle.lvs_well_formed.proofs.Counting.{IsKept, entries_kept, templates_kept}
-use Rattle.lvs_well_formed.proofs.Alike.{Stays, StaysNamed, stays_from, entries_stay, templates_stay}
+use Rattle.lvs_well_formed.proofs.Alike.{StaysNamed, found_stays, stays_from, entries_stay, templates_stay}
 use Rattle.lvs_well_formed.proofs.AlikeStates.{with_alike, ends_alike}
 use Rattle.lvs_well_formed.proofs.Entries.{with_entries_filtered}
 use Rattle.lvs_well_formed.proofs.Templates.{with_templates_kept}
@@ -82,14 +81,10 @@ kept_dest es ts ds id d named found =
     let same = dest_id_true d.id id (find_passes (has_dest_id id) ds d found) in
     find_filter (has_dest_id id) (is_unreleased es ts) ds d found (named_stays d.live (refs d.id es ts == 0) (subst (λ i. (refs i es ts == 0) ≡ false) (sym same) named))
 
-found_stays : (d : Dest) (o : Option Dest) → o ≡ Some d → Stays (Some d) o
-found_stays d None is = absurd cc
-found_stays d (Some other) is = let same : other ≡ d = cc in ap place_of same
-
 named_kept : (es : List Entry) (ts : List Template) (ds : List Dest) (o : Option DestId) → IsKept es ts o → StaysNamed ds (filter (is_unreleased es ts) ds) o
 named_kept es ts ds None kept = tt
 named_kept es ts ds (Some id) kept =
-    stays_from (dest_at id ds) (dest_at id (filter (is_unreleased es ts) ds)) (λ d is. found_stays d (dest_at id (filter (is_unreleased es ts) ds)) (kept_dest es ts ds id d (kept id refl) is))
+    stays_from (dest_at id ds) (dest_at id (filter (is_unreleased es ts) ds)) (λ d is. found_stays d d (dest_at id (filter (is_unreleased es ts) ds)) (kept_dest es ts ds id d (kept id refl) is) refl)
 
 live_found : (key : ServiceKey) (ds : List Dest) (later : List Dest) (id : DestId) (o : Option Dest) → ((d : Dest) → o ≡ Some d → d.live ≡ true → dest_at id later ≡ Some d) → dest_at id ds ≡ o → is_live_server key o ≡ true → is_live_server key (dest_at id later) ≡ true
 live_found key ds later id None stays is live = absurd cc
@@ -120,9 +115,9 @@ released_after s p =
           thresholds = all_filter HasGoodThresholds test s.dests p.dests.thresholds;
         };
         entries = entries_stay s.next_entry s.next_template s.dests later s.entries
-          (all_weaker (λ (e : Entry). IsKept s.entries s.templates e.server) (λ (e : Entry). StaysNamed s.dests later e.server) s.entries (λ e kept. named_kept s.entries s.templates s.dests e.server kept) (entries_kept s.entries s.templates)) p.entries;
+            (all_weaker (λ (e : Entry). IsKept s.entries s.templates e.server) (λ (e : Entry). StaysNamed s.dests later e.server) s.entries (λ e kept. named_kept s.entries s.templates s.dests e.server kept) (entries_kept s.entries s.templates)) p.entries;
         templates = templates_stay s.next_template s.dests later s.templates
-          (all_weaker (λ (t : Template). IsKept s.entries s.templates t.server) (λ (t : Template). StaysNamed s.dests later t.server) s.templates (λ t kept. named_kept s.entries s.templates s.dests t.server kept) (templates_kept s.entries s.templates)) p.templates;
+            (all_weaker (λ (t : Template). IsKept s.entries s.templates t.server) (λ (t : Template). StaysNamed s.dests later t.server) s.templates (λ t kept. named_kept s.entries s.templates s.dests t.server kept) (templates_kept s.entries s.templates)) p.templates;
         pending = p.pending;
       };
       ids = record { entries = (ids_stay s).entries; dests = goes.rises; templates = (ids_stay s).templates };

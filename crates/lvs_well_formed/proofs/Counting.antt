@@ -1,5 +1,5 @@
 -- Whatever is named counts.
-use Rattle.std.proofs.Common.{◌≡◌, ◌==◌, ◌≤◌, ◌<◌, ◌+◌, ℕ, Bool, true, false, cond, not, ◌&&◌, List, [], ◌∷◌, Option, Some, None, refl, sym, ap, subst, arith}
+use Rattle.std.proofs.Common.{◌≡◌, ◌==◌, ◌≤◌, ◌+◌, ℕ, Bool, true, false, cond, not, ◌&&◌, List, [], ◌∷◌, Option, Some, None, refl, sym, ap, subst, arith}
 use Rattle.std.proofs.lemmas.Bool.{ne_eqb}
 use Rattle.std.proofs.lemmas.List.Sums.{sum_by-cons}
 use Rattle.std.specs.List.{AllByRecursion, count_by}
@@ -8,7 +8,7 @@ use Rattle.lvs_types.specs.declared.entry.Entry.{Entry}
 use Rattle.lvs_types.specs.declared.template.Template.{Template}
 use Rattle.lvs_model.specs.Same.{dest_eq, dest_id_eq}
 use Rattle.lvs_model.specs.Timeouts.{is_active}
-use Rattle.lvs_model.specs.Counts.{counts_active, counts_inactive, active, inactive, total, template_count, refs}
+use Rattle.lvs_model.specs.Counts.{counts_active, counts_inactive, total, template_count, refs}
 use Rattle.lvs_well_formed.proofs.Lists.{all_weaker}
 use Rattle.lvs_well_formed.proofs.Keys.{nat_same}
 
@@ -46,9 +46,10 @@ count_tail id e es counts = omega (arith, total_cons id e es, counts)
 
 pub named_counts : (es : List Entry) → AllByRecursion (λ (e : Entry). Counts es e.server) es
 named_counts [] = tt
-named_counts (e ∷ es) =
-    ((λ id is. count_head id e es is),
-    all_weaker (λ (f : Entry). Counts es f.server) (λ (f : Entry). Counts (e ∷ es) f.server) es (λ f counts id is. count_tail id e es (counts id is)) (named_counts es))
+named_counts (e ∷ es) = (
+  (λ id is. count_head id e es is),
+  all_weaker (λ (f : Entry). Counts es f.server) (λ (f : Entry). Counts (e ∷ es) f.server) es (λ f counts id is. count_tail id e es (counts id is)) (named_counts es),
+)
 
 abbrev pub CountsTemplate : List Template → Option DestId → Type 0
 CountsTemplate ts o = (id : DestId) → o ≡ Some id → 1 ≤ template_count id ts
@@ -63,9 +64,10 @@ template_tail id t ts counts = omega (arith, count_cons (λ (u : Template). dest
 
 pub named_counts_templates : (ts : List Template) → AllByRecursion (λ (t : Template). CountsTemplate ts t.server) ts
 named_counts_templates [] = tt
-named_counts_templates (t ∷ ts) =
-    ((λ id is. template_head id t ts is),
-    all_weaker (λ (u : Template). CountsTemplate ts u.server) (λ (u : Template). CountsTemplate (t ∷ ts) u.server) ts (λ u counts id is. template_tail id t ts (counts id is)) (named_counts_templates ts))
+named_counts_templates (t ∷ ts) = (
+  (λ id is. template_head id t ts is),
+  all_weaker (λ (u : Template). CountsTemplate ts u.server) (λ (u : Template). CountsTemplate (t ∷ ts) u.server) ts (λ u counts id is. template_tail id t ts (counts id is)) (named_counts_templates ts),
+)
 
 -- a server that is named isn't free to go
 abbrev pub IsKept : List Entry → List Template → Option DestId → Type 0

@@ -1,8 +1,7 @@
 -- Lists whose keys are apart, through the edits that the definitions make.
-use Rattle.std.proofs.Common.{◌≡◌, ℕ, Bool, true, false, cond, not, List, [], ◌∷◌, ◌++◌, Option, Some, None, refl, sym, ap, subst, map}
-use Rattle.std.specs.Bool.{Decides}
+use Rattle.std.proofs.Common.{◌≡◌, Bool, true, false, cond, not, List, [], ◌∷◌, ◌++◌, Option, Some, None, refl, sym, ap, subst, map}
 use Rattle.std.specs.List.{AllByRecursion, IsDistinct, find, filter, filter_map, cons_option}
-use Rattle.lvs_model.specs.Lists.{update_first, without}
+use Rattle.lvs_model.specs.Lists.{update_first}
 use Rattle.lvs_well_formed.proofs.Lists.{all_weaker, all_both, all_map, all_unmap, all_append, all_filter, all_filter_map, all_find}
 
 pub distinct_none : {K : Type 0} (eq : K → K → Bool) → IsDistinct eq []
@@ -75,11 +74,12 @@ found_here false x o same = absurd cc
 pub each_found : {X K : Type 0} (eq : K → K → Bool) (key : X → K) (xs : List X) → ((k : K) → eq k k ≡ true) → IsDistinct eq (map key xs) → AllByRecursion (λ x. find (λ y. eq (key y) (key x)) xs ≡ Some x) xs
 each_found eq key [] same apart = tt
 each_found eq key (x ∷ xs) same apart =
-    let parts = distinct_parts eq (key x) (map key xs) apart in
-    (found_here (eq (key x) (key x)) x (find (λ y. eq (key y) (key x)) xs) (same (key x)),
-    all_both (λ z. eq (key x) (key z) ≡ false) (λ z. find (λ y. eq (key y) (key z)) xs ≡ Some z) (λ z. find (λ y. eq (key y) (key z)) (x ∷ xs) ≡ Some z) xs
-    (λ z differs is. itself_step (eq (key x) (key z)) x z (find (λ y. eq (key y) (key z)) xs) differs is)
-    (all_unmap (λ k. eq (key x) k ≡ false) key xs parts.0) (each_found eq key xs same parts.1))
+    let parts = distinct_parts eq (key x) (map key xs) apart in (
+      found_here (eq (key x) (key x)) x (find (λ y. eq (key y) (key x)) xs) (same (key x)),
+      all_both (λ z. eq (key x) (key z) ≡ false) (λ z. find (λ y. eq (key y) (key z)) xs ≡ Some z) (λ z. find (λ y. eq (key y) (key z)) (x ∷ xs) ≡ Some z) xs
+          (λ z differs is. itself_step (eq (key x) (key z)) x z (find (λ y. eq (key y) (key z)) xs) differs is)
+          (all_unmap (λ k. eq (key x) k ≡ false) key xs parts.0) (each_found eq key xs same parts.1),
+    )
 
 -- once the one that passes has left, the keys of the others are apart from its key
 pub others_apart : {X K : Type 0} (eq : K → K → Bool) (key : X → K) (p : X → Bool) (xs : List X) (x : X) → ((a b : K) → eq a b ≡ false → eq b a ≡ false) → IsDistinct eq (map key xs) → find p xs ≡ Some x
@@ -90,9 +90,9 @@ others_apart eq key p (y ∷ ys) x flip apart found =
     let differ = all_unmap (λ k. eq (key y) k ≡ false) key ys parts.0 in
     let M : Bool → Type 0 = λ b. cond b (Some y) (find p ys) ≡ Some x → AllByRecursion (λ z. eq (key z) (key x) ≡ false) (cond (not b) (y ∷ filter (λ z. not (p z)) ys) (filter (λ z. not (p z)) ys)) in
     (elim (p y) as M [
-      true ↦ (λ here.
-        let same : y ≡ x = cc in
-        all_filter (λ z. eq (key z) (key x) ≡ false) (λ z. not (p z)) ys
-        (all_weaker (λ z. eq (key y) (key z) ≡ false) (λ z. eq (key z) (key x) ≡ false) ys (λ z other. subst (λ w. eq (key z) (key w) ≡ false) same (flip (key y) (key z) other)) differ))
+      | true ↦ (λ here.
+          let same : y ≡ x = cc in
+          all_filter (λ z. eq (key z) (key x) ≡ false) (λ z. not (p z)) ys
+          (all_weaker (λ z. eq (key y) (key z) ≡ false) (λ z. eq (key z) (key x) ≡ false) ys (λ z other. subst (λ w. eq (key z) (key w) ≡ false) same (flip (key y) (key z) other)) differ))
       | false ↦ (λ later. (all_find (λ z. eq (key y) (key z) ≡ false) p ys x differ later, others_apart eq key p ys x flip parts.1 later))
     ]) found

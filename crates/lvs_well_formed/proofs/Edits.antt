@@ -1,6 +1,5 @@
 -- Edits keep the state well formed.
-use Rattle.std.proofs.Common.{◌≡◌, ℕ, Bool, true, false, List, [], Option, Some, None, refl, sym, ap, subst}
-use Rattle.lvs_types.specs.declared.service.Service.{Service}
+use Rattle.std.proofs.Common.{ℕ, Option, Some, None, refl}
 use Rattle.lvs_types.specs.declared.command.Command.{Command}
 use Rattle.lvs_types.specs.declared.command.Command.TheVariants as command
 use Rattle.lvs_types.specs.declared.settings.Setting.{Setting}

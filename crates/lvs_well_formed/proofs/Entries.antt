@@ -1,23 +1,22 @@
 -- Entries that change, end or are added keep the state well formed.
-use Rattle.std.proofs.Common.{◌≡◌, ◌==◌, ◌<◌, ◌+◌, ℕ, Bool, true, false, cond, not, ◌&&◌, ◌||◌, List, [], ◌∷◌, ◌++◌, Option, Some, None, refl, sym, ap, subst, map, is_some, is_none, ◌∙◌, nat_eq}
+use Rattle.std.proofs.Common.{◌≡◌, ◌+◌, ℕ, Bool, true, false, not, List, [], ◌∷◌, ◌++◌, Option, Some, None, sym, ap, subst, is_some, nat_eq}
 use Rattle.std.specs.List.{AllByRecursion, IsDistinct, find, filter}
-use Rattle.lvs_types.specs.declared.addr.DestId.{DestId}
 use Rattle.lvs_types.specs.declared.dest.Dest.{Dest}
 use Rattle.lvs_types.specs.declared.entry.Key.{Key}
 use Rattle.lvs_types.specs.declared.entry.Entry.{Entry}
 use Rattle.lvs_types.specs.declared.sync.SyncRecord.{SyncRecord}
 use Rattle.lvs_model.specs.State.{State}
 use Rattle.lvs_model.specs.Same.{key_eq}
-use Rattle.lvs_model.specs.Lists.{update_first, without}
-use Rattle.lvs_model.specs.Lookups.{dest_at, has_entry_id, has_key}
+use Rattle.lvs_model.specs.Lists.{without}
+use Rattle.lvs_model.specs.Lookups.{dest_at, has_entry_id}
 use Rattle.lvs_model.specs.Binding.{put_entry, serves_at, count_ended}
 use Rattle.lvs_model.specs.Incoming.{end_entry, server_named}
-use Rattle.lvs_model.specs.WellFormed.{AreDrawn, IsThere, GoesTo, HoldsOlder, HasStateOfProto, entry_ids, entry_keys, dest_ids}
-use Rattle.lvs_well_formed.proofs.Lists.{all_weaker, all_passing, all_filter, all_push, all_find, all_update, all_unmap}
-use Rattle.lvs_well_formed.proofs.Distinct.{keys_put, distinct_filter, distinct_push, distinct_parts, each_found}
+use Rattle.lvs_model.specs.WellFormed.{AreDrawn, IsThere, GoesTo, HoldsOlder, HasStateOfProto, entry_ids}
+use Rattle.lvs_well_formed.proofs.Lists.{all_filter, all_push, all_find, all_update}
+use Rattle.lvs_well_formed.proofs.Distinct.{keys_put, distinct_filter, distinct_push, each_found}
 use Rattle.lvs_well_formed.proofs.Ids.{goes_equal, goes_filter, goes_push}
 use Rattle.lvs_well_formed.proofs.Keys.{nat_same}
-use Rattle.lvs_well_formed.proofs.Parts.{IsSound, AreEntries, Parts, After, ids_stay, then_after}
+use Rattle.lvs_well_formed.proofs.Parts.{IsSound, Parts, After, ids_stay, then_after}
 use Rattle.lvs_well_formed.proofs.AlikeStates.{with_alike, ended_alike}
 
 -- each server is the one that is found by its id

@@ -1,7 +1,7 @@
 -- What is found in a list after an edit.
-use Rattle.std.proofs.Common.{◌≡◌, ℕ, Bool, true, false, cond, not, List, [], ◌∷◌, ◌++◌, Option, Some, None, refl, sym, ap, subst, map}
+use Rattle.std.proofs.Common.{◌≡◌, Bool, true, false, cond, List, [], ◌∷◌, ◌++◌, Option, Some, None, refl, sym, ap, subst}
 use Rattle.std.specs.List.{AllByRecursion, find, filter, filter_map, cons_option}
-use Rattle.lvs_model.specs.Lists.{update_first, without}
+use Rattle.lvs_model.specs.Lists.{update_first}
 
 -- where the first one that passes stands, by cases
 pub find_cases : {X : Type 0} (b : Bool) (x y : X) (o : Option X) (Q : Type 0) → cond b (Some y) o ≡ Some x → (b ≡ true → y ≡ x → Q) → (b ≡ false → o ≡ Some x → Q) → Q
@@ -34,13 +34,13 @@ find_filter p q [] x found stays = absurd cc
 find_filter p q (z ∷ zs) x found stays =
     find_cases (p z) x z (find p zs) (find p (cond (q z) (z ∷ filter q zs) (filter q zs)) ≡ Some x) found
     (λ is same.
-      let here : q z ≡ true = subst (λ y. q y ≡ true) (sym same) stays in
-      let M : Bool → Type 0 = λ b. b ≡ true → find p (cond b (z ∷ filter q zs) (filter q zs)) ≡ Some x in
-      (elim (q z) as M [ true ↦ (λ _. at_true (p z) x z (find p (filter q zs)) is same) | false ↦ (λ no_match. absurd cc) ]) here)
+    let here : q z ≡ true = subst (λ y. q y ≡ true) (sym same) stays in
+    let M : Bool → Type 0 = λ b. b ≡ true → find p (cond b (z ∷ filter q zs) (filter q zs)) ≡ Some x in
+    (elim (q z) as M [ true ↦ (λ _. at_true (p z) x z (find p (filter q zs)) is same) | false ↦ (λ no_match. absurd cc) ]) here)
     (λ is later.
-      let rest = find_filter p q zs x later stays in
-      let M : Bool → Type 0 = λ b. find p (cond b (z ∷ filter q zs) (filter q zs)) ≡ Some x in
-      elim (q z) as M [ true ↦ at_false (p z) x z (find p (filter q zs)) is rest | false ↦ rest ])
+    let rest = find_filter p q zs x later stays in
+    let M : Bool → Type 0 = λ b. find p (cond b (z ∷ filter q zs) (filter q zs)) ≡ Some x in
+    elim (q z) as M [ true ↦ at_false (p z) x z (find p (filter q zs)) is rest | false ↦ rest ])
 
 kept_option : {X : Type 0} (p : X → Bool) (o : Option X) (ys : List X) (y : X) → ((z : X) → o ≡ Some z → p z ≡ false) → find p ys ≡ Some y → find p (cons_option o ys) ≡ Some y
 kept_option p None ys y differs found = found
@@ -56,8 +56,8 @@ find_filter_map p h [] x y same found becomes = absurd cc
 find_filter_map p h (z ∷ zs) x y same found becomes =
     find_cases (p z) x z (find p zs) (find p (cons_option (h z) (filter_map h zs)) ≡ Some y) found
     (λ is here.
-      let becomes_here : h z ≡ Some y = subst (λ a. h a ≡ Some y) (sym here) becomes in
-      here_option p (h z) (filter_map h zs) y becomes_here (let kept = same z y becomes_here in cc))
+    let becomes_here : h z ≡ Some y = subst (λ a. h a ≡ Some y) (sym here) becomes in
+    here_option p (h z) (filter_map h zs) y becomes_here (let kept = same z y becomes_here in cc))
     (λ is later. kept_option p (h z) (filter_map h zs) y (λ b becomes_b. let kept = same z b becomes_b in cc) (find_filter_map p h zs x y same later becomes))
 
 -- the one that is found is replaced by one that passes

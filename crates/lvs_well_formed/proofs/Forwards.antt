@@ -1,7 +1,6 @@
 -- A forwarded packet, and the entry of a new connection, keep the state well formed.
-use Rattle.std.proofs.Common.{◌≡◌, ◌==◌, ◌<◌, ◌+◌, ℕ, Bool, true, false, cond, not, ◌&&◌, ◌||◌, List, [], ◌∷◌, ◌++◌, Option, Some, None, refl, sym, ap, subst, is_some, is_none, ◌∙◌, nat_eq}
-use Rattle.std.specs.List.{AllByRecursion, find}
-use Rattle.lvs_types.specs.declared.addr.DestId.{DestId}
+use Rattle.std.proofs.Common.{◌≡◌, ◌==◌, ◌+◌, ℕ, Bool, true, false, cond, ◌&&◌, ◌||◌, List, [], ◌∷◌, ◌++◌, Option, Some, None, refl, is_some, is_none, ◌∙◌}
+use Rattle.std.proofs.lemmas.Bool.{and_from, or_left}
 use Rattle.lvs_types.specs.declared.addr.TemplateId.{TemplateId}
 use Rattle.lvs_types.specs.declared.head.Head.{Head}
 use Rattle.lvs_types.specs.declared.service.Proto.{Proto}
@@ -21,7 +20,7 @@ use Rattle.lvs_model.specs.SyncRules.{due_for_sync, of_entry}
 use Rattle.lvs_model.specs.Binding.{put_entry, serves_at, count_bound}
 use Rattle.lvs_model.specs.Forwarding.{state_after, direction_in, after_packet, records_due, records_of_template, forward_known}
 use Rattle.lvs_model.specs.Scheduling.{port_at, state_before, new_entry, enter, is_one_packet, connect_to}
-use Rattle.lvs_model.specs.WellFormed.{HasStateOfProto, IsOlder}
+use Rattle.lvs_model.specs.WellFormed.{IsOlder}
 use Rattle.lvs_well_formed.proofs.Keys.{addr_same, nat_same}
 use Rattle.lvs_well_formed.proofs.Parts.{IsSound, Parts, After, stays, then_after}
 use Rattle.lvs_well_formed.proofs.AlikeStates.{with_alike, bound_alike}
@@ -72,10 +71,6 @@ enter_after s p e d id free sound parts =
     (then_after s added counted (with_entry_added s e id free sound parts) (λ q. with_alike added (count_bound d.id entries s.dests) (bound_alike d.id entries s.dests) q))
     (λ q. with_pending counted (s.pending ++ records) (none_added counted records q (none_due s (state_before p.proto) e)) q)
 
-or_first : (a b : Bool) → a ≡ true → (a || b) ≡ true
-or_first true b is = refl
-or_first false b is = absurd cc
-
 or_all : (a b c : Bool) → b ≡ true → c ≡ true → (a || (b && c)) ≡ true
 or_all true b c is also = refl
 or_all false true c is also = also
@@ -83,16 +78,12 @@ or_all false false c is also = absurd cc
 
 serves_step : (zero_port : Bool) (port dport : ℕ) → (port == 0) ≡ zero_port → ((port == cond zero_port dport port) || ((port == 0) && (cond zero_port dport port == dport))) ≡ true
 serves_step true port dport is = or_all (port == dport) (port == 0) (dport == dport) is (nat_same dport)
-serves_step false port dport is = or_first (port == port) ((port == 0) && (port == dport)) (nat_same port)
-
-both_true : (a b : Bool) → a ≡ true → b ≡ true → (a && b) ≡ true
-both_true true b is also = also
-both_true false b is also = absurd cc
+serves_step false port dport is = or_left (port == port) ((port == 0) && (port == dport)) (nat_same port)
 
 -- a server serves where it sends its new connections
 pub serves_new : (d : Dest) (head : Head) → serves_at d.spec.addr (port_at d head) head.dport d ≡ true
 serves_new d head =
-    both_true (addr_eq d.spec.addr d.spec.addr) ((d.spec.port == port_at d head) || ((d.spec.port == 0) && (port_at d head == head.dport))) (addr_same d.spec.addr)
+    and_from (addr_eq d.spec.addr d.spec.addr) ((d.spec.port == port_at d head) || ((d.spec.port == 0) && (port_at d head == head.dport))) (addr_same d.spec.addr)
     (serves_step (d.spec.port == 0) d.spec.port head.dport refl)
 
 new_state : (proto : Proto) (direction : Direction) (head : Head) → is_none (state_after (state_before proto) direction head) ≡ proto_eq proto Udp

@@ -1,5 +1,5 @@
 -- In a well formed state whatever is there is found.
-use Rattle.std.proofs.Common.{◌≡◌, ◌<◌, ℕ, Bool, true, false, List, [], ◌∷◌, Option, Some, None, refl, sym, subst, nat_eq}
+use Rattle.std.proofs.Common.{◌≡◌, ◌<◌, ℕ, false, List, Some, nat_eq}
 use Rattle.std.proofs.lemmas.Bool.{false_from_ne_true, both_ways}
 use Rattle.std.specs.List.{AllByRecursion}
 use Rattle.lvs_types.specs.declared.service.Service.{Service}
@@ -8,7 +8,7 @@ use Rattle.lvs_types.specs.declared.entry.Entry.{Entry}
 use Rattle.lvs_types.specs.declared.template.Template.{Template}
 use Rattle.lvs_model.specs.State.{State}
 use Rattle.lvs_model.specs.Same.{key_eq, service_key_eq, template_key_eq}
-use Rattle.lvs_model.specs.Lookups.{dest_at, entry_at, service_at, template_at, template_of_id, has_entry_id}
+use Rattle.lvs_model.specs.Lookups.{dest_at, entry_at, service_at, template_at, template_of_id}
 use Rattle.lvs_model.specs.WellFormed.{IsWellFormed}
 use Rattle.lvs_well_formed.specs.Rising.{Rises, IsNewOrAmong, is_among}
 use Rattle.lvs_well_formed.proofs.Distinct.{each_found}

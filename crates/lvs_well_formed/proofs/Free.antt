@@ -1,6 +1,6 @@
 -- A key is free where no entry has it, and once its entry has ended.
-use Rattle.std.proofs.Common.{◌≡◌, ◌==◌, ℕ, Bool, true, false, cond, not, List, [], ◌∷◌, Option, Some, None, refl, sym, ap, subst, map, ◌∙◌, nat_eq}
-use Rattle.std.specs.List.{AllByRecursion, IsDistinct, find, filter}
+use Rattle.std.proofs.Common.{◌≡◌, false, List, Some, None, subst}
+use Rattle.std.specs.List.{AllByRecursion, IsDistinct, find}
 use Rattle.lvs_types.specs.declared.entry.Key.{Key}
 use Rattle.lvs_types.specs.declared.entry.Entry.{Entry}
 use Rattle.lvs_model.specs.State.{State}

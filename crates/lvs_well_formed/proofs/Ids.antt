@@ -1,27 +1,19 @@
 -- Ids are drawn in order, and rise.
-use Rattle.std.proofs.Common.{◌≡◌, ◌==◌, ◌≤◌, ◌<◌, ◌+◌, ℕ, Bool, true, false, cond, not, ◌||◌, List, [], ◌∷◌, ◌++◌, Option, Some, None, refl, sym, ap, subst, map, arith, nat_eq}
-use Rattle.std.proofs.lemmas.Bool.{eqb-true, ne_eqb, or_cases, or_right}
-use Rattle.std.specs.List.{AllByRecursion, IsDistinct, find, filter, filter_map, list_any}
-use Rattle.lvs_model.specs.Lists.{update_first, without}
+use Rattle.std.proofs.Common.{◌≡◌, ◌==◌, ◌+◌, ℕ, Bool, true, false, not, ◌||◌, List, [], ◌∷◌, ◌++◌, Option, Some, refl, sym, subst, map, arith, nat_eq}
+use Rattle.std.proofs.lemmas.Bool.{eqb-true, ne_eqb, not-true, or_left, or_right}
+use Rattle.std.specs.List.{AllByRecursion, filter, filter_map}
 use Rattle.lvs_model.specs.WellFormed.{AreDrawn, IsDrawn}
 use Rattle.lvs_well_formed.specs.Rising.{Rises, IsNewOrAmong, is_among}
-use Rattle.lvs_well_formed.proofs.Lists.{all_weaker, all_true, all_both, all_map, all_unmap, all_append, all_filter, all_passing, all_filter_map, all_find}
-use Rattle.lvs_well_formed.proofs.Distinct.{distinct_push, distinct_filter, distinct_filter_map, keys_update}
+use Rattle.lvs_well_formed.proofs.Lists.{all_weaker, all_map, all_unmap, all_append, all_filter, all_filtered, all_filter_map}
+use Rattle.lvs_well_formed.proofs.Distinct.{distinct_push, distinct_filter, distinct_filter_map}
 use Rattle.lvs_well_formed.proofs.Keys.{nat_same}
-
-or_true : (a b : Bool) → a ≡ true → (a || b) ≡ true
-or_true true b is = refl
-or_true false b is = absurd cc
-
-or_later : (a b : Bool) → b ≡ true → (a || b) ≡ true
-or_later true b is = refl
-or_later false b is = is
 
 pub all_among : (ids : List ℕ) → AllByRecursion (λ id. is_among ids id ≡ true) ids
 all_among [] = tt
-all_among (id ∷ ids) =
-    (or_true (id == id) (is_among ids id) (nat_same id),
-    all_weaker (λ other. is_among ids other ≡ true) (λ other. is_among (id ∷ ids) other ≡ true) ids (λ other is. or_later (id == other) (is_among ids other) is) (all_among ids))
+all_among (id ∷ ids) = (
+  or_left (id == id) (is_among ids id) (nat_same id),
+  all_weaker (λ other. is_among ids other ≡ true) (λ other. is_among (id ∷ ids) other ≡ true) ids (λ other is. or_right (id == other) (is_among ids other) is) (all_among ids),
+)
 
 pub among_all : (P : ℕ → Type 0) (ids : List ℕ) (id : ℕ) → AllByRecursion P ids → is_among ids id ≡ true → P id
 among_all P [] id each is = absurd cc
@@ -39,7 +31,7 @@ pub rises_then : (a b c : ℕ) (first_ids mid_ids last_ids : List ℕ) → Rises
 rises_then a b c first_ids mid_ids last_ids first then = record {
   next_id = omega (arith, first.next_id, then.next_id);
   each = all_weaker (IsNewOrAmong b mid_ids) (IsNewOrAmong a first_ids) last_ids
-    (λ id later below. among_all (IsNewOrAmong a first_ids) mid_ids id first.each (later (omega (arith, first.next_id, below))) below) then.each;
+      (λ id later below. among_all (IsNewOrAmong a first_ids) mid_ids id first.each (later (omega (arith, first.next_id, below))) below) then.each;
 }
 
 -- ids that go on from others
@@ -69,8 +61,8 @@ goes_filter next key p xs drawn = record {
     apart = distinct_filter nat_eq key p xs drawn.apart;
   };
   rises = let ids = map key xs in
-    old_rise next ids (map key (filter p xs))
-    (all_map (λ id. is_among ids id ≡ true) key (filter p xs) (all_filter (λ x. is_among ids (key x) ≡ true) p xs (all_unmap (λ id. is_among ids id ≡ true) key xs (all_among ids))));
+      old_rise next ids (map key (filter p xs))
+      (all_map (λ id. is_among ids id ≡ true) key (filter p xs) (all_filter (λ x. is_among ids (key x) ≡ true) p xs (all_unmap (λ id. is_among ids id ≡ true) key xs (all_among ids))));
 }
 
 pub goes_filter_map : {X : Type 0} (next : ℕ) (key : X → ℕ) (h : X → Option X) (xs : List X) → ((x y : X) → h x ≡ Some y → key y ≡ key x) → AreDrawn next (map key xs) → GoesOn next (map key xs) next (map key (filter_map h xs))
@@ -78,14 +70,14 @@ goes_filter_map next key h xs same drawn = record {
   drawn = record {
     begins = drawn.begins;
     each = all_map (IsDrawn next) key (filter_map h xs)
-      (all_filter_map (λ x. IsDrawn next (key x)) (λ x. IsDrawn next (key x)) h xs (λ x y is here. subst (IsDrawn next) (sym (same x y is)) here) (all_unmap (IsDrawn next) key xs drawn.each));
+        (all_filter_map (λ x. IsDrawn next (key x)) (λ x. IsDrawn next (key x)) h xs (λ x y is here. subst (IsDrawn next) (sym (same x y is)) here) (all_unmap (IsDrawn next) key xs drawn.each));
     apart = distinct_filter_map nat_eq key h xs same drawn.apart;
   };
   rises = let ids = map key xs in
-    let IsOld : ℕ → Type 0 = λ id. is_among ids id ≡ true in
-    old_rise next ids (map key (filter_map h xs))
-    (all_map IsOld key (filter_map h xs)
-    (all_filter_map (λ x. IsOld (key x)) (λ x. IsOld (key x)) h xs (λ x y is here. subst IsOld (sym (same x y is)) here) (all_unmap IsOld key xs (all_among ids))));
+      let IsOld : ℕ → Type 0 = λ id. is_among ids id ≡ true in
+      old_rise next ids (map key (filter_map h xs))
+      (all_map IsOld key (filter_map h xs)
+      (all_filter_map (λ x. IsOld (key x)) (λ x. IsOld (key x)) h xs (λ x y is here. subst IsOld (sym (same x y is)) here) (all_unmap IsOld key xs (all_among ids))));
 }
 
 below_differs : (next id : ℕ) → IsDrawn next id → nat_eq id next ≡ false
@@ -97,27 +89,23 @@ goes_push next key xs y is drawn =
     let each = all_unmap (IsDrawn next) key xs drawn.each in
     let ids = map key xs in
     record {
-  drawn = record {
-    begins = omega arith;
-    each = all_map (IsDrawn (next + 1)) key (xs ++ y ∷ [])
-      (all_append (λ x. IsDrawn (next + 1) (key x)) xs (y ∷ [])
-      (all_weaker (λ x. IsDrawn next (key x)) (λ x. IsDrawn (next + 1) (key x)) xs (λ x here. (here.0, omega (arith, here.1))) each)
-      ((omega (arith, is, drawn.begins), omega (arith, is)), tt));
-    apart = distinct_push nat_eq key xs y
-      (all_weaker (λ x. IsDrawn next (key x)) (λ x. nat_eq (key x) (key y) ≡ false) xs (λ x here. subst (λ k. nat_eq (key x) k ≡ false) (sym is) (below_differs next (key x) here)) each) drawn.apart;
-  };
-  rises = record {
-    next_id = omega arith;
-    each = all_map (IsNewOrAmong next ids) key (xs ++ y ∷ [])
-      (all_append (λ x. IsNewOrAmong next ids (key x)) xs (y ∷ [])
-      (all_unmap (IsNewOrAmong next ids) key xs (rises_same next ids).each)
-      ((λ below. absurd (omega (arith, is, below))), tt));
-  };
-}
-
-not_false : (b : Bool) → not b ≡ true → b ≡ false
-not_false true is = absurd cc
-not_false false is = refl
+      drawn = record {
+        begins = omega arith;
+        each = all_map (IsDrawn (next + 1)) key (xs ++ y ∷ [])
+            (all_append (λ x. IsDrawn (next + 1) (key x)) xs (y ∷ [])
+            (all_weaker (λ x. IsDrawn next (key x)) (λ x. IsDrawn (next + 1) (key x)) xs (λ x here. (here.0, omega (arith, here.1))) each)
+            ((omega (arith, is, drawn.begins), omega (arith, is)), tt));
+        apart = distinct_push nat_eq key xs y
+            (all_weaker (λ x. IsDrawn next (key x)) (λ x. nat_eq (key x) (key y) ≡ false) xs (λ x here. subst (λ k. nat_eq (key x) k ≡ false) (sym is) (below_differs next (key x) here)) each) drawn.apart;
+      };
+      rises = record {
+        next_id = omega arith;
+        each = all_map (IsNewOrAmong next ids) key (xs ++ y ∷ [])
+            (all_append (λ x. IsNewOrAmong next ids (key x)) xs (y ∷ [])
+            (all_unmap (IsNewOrAmong next ids) key xs (rises_same next ids).each)
+            ((λ below. absurd (omega (arith, is, below))), tt));
+      };
+    }
 
 -- an id that stands last instead
 pub goes_moved : {X : Type 0} (next : ℕ) (key : X → ℕ) (xs : List X) (y : X) → is_among (map key xs) (key y) ≡ true → AreDrawn next (map key xs) → GoesOn next (map key xs) next (map key (filter (λ x. not (key x == key y)) xs ++ y ∷ []))
@@ -130,7 +118,7 @@ goes_moved {X} next key xs y old drawn =
       drawn = record {
         begins = drawn.begins;
         each = all_map (IsDrawn next) key (rest ++ y ∷ []) (all_append (λ x. IsDrawn next (key x)) rest (y ∷ []) (all_unmap (IsDrawn next) key rest left.drawn.each) (among_all (IsDrawn next) ids (key y) drawn.each old, tt));
-        apart = distinct_push nat_eq key rest y (all_passing (λ x. is_among ids (key x) ≡ true) (λ x. nat_eq (key x) (key y) ≡ false) test xs (λ x differs _. not_false (nat_eq (key x) (key y)) differs) (all_unmap (λ id. is_among ids id ≡ true) key xs (all_among ids))) left.drawn.apart;
+        apart = distinct_push nat_eq key rest y (all_filtered (λ x. nat_eq (key x) (key y) ≡ false) test xs (λ x differs. not-true (nat_eq (key x) (key y)) differs)) left.drawn.apart;
       };
       rises = record {
         next_id = omega arith;

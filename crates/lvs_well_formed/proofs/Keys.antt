@@ -1,16 +1,15 @@
 -- The tests of equality of keys decide equality.
-use Rattle.std.proofs.Common.{◌≡◌, ◌==◌, ℕ, Bool, true, false, ◌&&◌, Option, Some, None, refl, sym, ap, subst, ◌∙◌, nat_eq, arith}
-use Rattle.std.proofs.lemmas.Bool.{and_parts, both_ways, eqb-true, eq-eqb, false_from_ne_true}
+use Rattle.std.proofs.Common.{◌≡◌, ◌==◌, ℕ, true, false, ◌&&◌, refl, ap, subst, ◌∙◌, nat_eq}
+use Rattle.std.proofs.lemmas.Bool.{and_from, and_parts, both_ways, eqb-true, eq-eqb, false_from_ne_true}
 use Rattle.lvs_types.specs.declared.addr.Addr.{Addr}
 use Rattle.lvs_types.specs.declared.addr.DestId.{DestId}
-use Rattle.lvs_types.specs.declared.addr.TemplateId.{TemplateId}
 use Rattle.lvs_types.specs.declared.service.Proto.{Proto}
 use Rattle.lvs_types.specs.declared.service.Proto.TheVariants.{Tcp, Udp}
 use Rattle.lvs_types.specs.declared.service.ServiceKey.{ServiceKey}
 use Rattle.lvs_types.specs.declared.service.ServiceKey.TheVariants.{Net, Mark}
 use Rattle.lvs_types.specs.declared.entry.Key.{Key}
 use Rattle.lvs_types.specs.declared.template.TemplateKey.{TemplateKey}
-use Rattle.lvs_model.specs.Same.{addr_eq, proto_eq, key_eq, service_key_eq, template_key_eq, dest_id_eq, template_id_eq}
+use Rattle.lvs_model.specs.Same.{addr_eq, proto_eq, key_eq, service_key_eq, template_key_eq, dest_id_eq}
 use Rattle.lvs_model.specs.WellFormed.{Place, place_eq}
 
 pub nat_same : (n : ℕ) → nat_eq n n ≡ true
@@ -32,15 +31,11 @@ proto_true Tcp Udp is = absurd cc
 proto_true Udp Tcp is = absurd cc
 proto_true Udp Udp is = refl
 
-both_same : (a b : Bool) → a ≡ true → b ≡ true → (a && b) ≡ true
-both_same true b is also = also
-both_same false b is also = absurd cc
-
 pub key_same : (k : Key) → key_eq k k ≡ true
 key_same k =
-    both_same (((proto_eq k.proto k.proto && addr_eq k.caddr k.caddr) && (k.cport == k.cport)) && addr_eq k.vaddr k.vaddr) (k.vport == k.vport)
-    (both_same ((proto_eq k.proto k.proto && addr_eq k.caddr k.caddr) && (k.cport == k.cport)) (addr_eq k.vaddr k.vaddr)
-    (both_same (proto_eq k.proto k.proto && addr_eq k.caddr k.caddr) (k.cport == k.cport) (both_same (proto_eq k.proto k.proto) (addr_eq k.caddr k.caddr) (proto_same k.proto) (addr_same k.caddr)) (nat_same k.cport))
+    and_from (((proto_eq k.proto k.proto && addr_eq k.caddr k.caddr) && (k.cport == k.cport)) && addr_eq k.vaddr k.vaddr) (k.vport == k.vport)
+    (and_from ((proto_eq k.proto k.proto && addr_eq k.caddr k.caddr) && (k.cport == k.cport)) (addr_eq k.vaddr k.vaddr)
+    (and_from (proto_eq k.proto k.proto && addr_eq k.caddr k.caddr) (k.cport == k.cport) (and_from (proto_eq k.proto k.proto) (addr_eq k.caddr k.caddr) (proto_same k.proto) (addr_same k.caddr)) (nat_same k.cport))
     (addr_same k.vaddr))
     (nat_same k.vport)
 
@@ -68,7 +63,7 @@ key_flip a b differs =
 
 pub service_key_same : (k : ServiceKey) → service_key_eq k k ≡ true
 service_key_same (Net proto addr port) =
-    both_same (proto_eq proto proto && addr_eq addr addr) (port == port) (both_same (proto_eq proto proto) (addr_eq addr addr) (proto_same proto) (addr_same addr)) (nat_same port)
+    and_from (proto_eq proto proto && addr_eq addr addr) (port == port) (and_from (proto_eq proto proto) (addr_eq addr addr) (proto_same proto) (addr_same addr)) (nat_same port)
 service_key_same (Mark mark) = nat_same mark
 
 pub service_key_true : (a b : ServiceKey) → service_key_eq a b ≡ true → a ≡ b
@@ -92,7 +87,7 @@ pub dest_id_true : (a b : DestId) → dest_id_eq a b ≡ true → a ≡ b
 dest_id_true a b is = let numbers = eqb-true a.0 b.0 is in ap (λ (n : ℕ). let id : DestId = record { 0 = n } in id) numbers
 
 pub place_same : (a : Place) → place_eq a a ≡ true
-place_same a = both_same (service_key_eq a.service a.service && addr_eq a.addr a.addr) (a.port == a.port) (both_same (service_key_eq a.service a.service) (addr_eq a.addr a.addr) (service_key_same a.service) (addr_same a.addr)) (nat_same a.port)
+place_same a = and_from (service_key_eq a.service a.service && addr_eq a.addr a.addr) (a.port == a.port) (and_from (service_key_eq a.service a.service) (addr_eq a.addr a.addr) (service_key_same a.service) (addr_same a.addr)) (nat_same a.port)
 
 pub place_true : (a b : Place) → place_eq a b ≡ true → a ≡ b
 place_true a b is =
@@ -111,6 +106,6 @@ place_flip a b differs =
 
 pub template_key_same : (k : TemplateKey) → template_key_eq k k ≡ true
 template_key_same k =
-    both_same (((k.code == k.code) && addr_eq k.client k.client) && addr_eq k.vaddr k.vaddr) (k.vport == k.vport)
-    (both_same ((k.code == k.code) && addr_eq k.client k.client) (addr_eq k.vaddr k.vaddr) (both_same (k.code == k.code) (addr_eq k.client k.client) (nat_same k.code) (addr_same k.client)) (addr_same k.vaddr))
+    and_from (((k.code == k.code) && addr_eq k.client k.client) && addr_eq k.vaddr k.vaddr) (k.vport == k.vport)
+    (and_from ((k.code == k.code) && addr_eq k.client k.client) (addr_eq k.vaddr k.vaddr) (and_from (k.code == k.code) (addr_eq k.client k.client) (nat_same k.code) (addr_same k.client)) (addr_same k.vaddr))
     (nat_same k.vport)

@@ -1,14 +1,12 @@
 -- A learnt record keeps the state well formed.
-use Rattle.std.proofs.Common.{◌≡◌, ◌==◌, ◌<◌, ◌≤◌, ◌+◌, ℕ, Bool, true, false, cond, not, ◌&&◌, ◌||◌, List, [], ◌∷◌, ◌++◌, Option, Some, None, refl, sym, ap, subst, ◌∙◌, is_none, nat_le, slice_get, zero, suc, arith}
+use Rattle.std.proofs.Common.{◌≡◌, ◌==◌, ◌≤◌, ◌+◌, ℕ, Bool, true, false, cond, not, ◌||◌, List, [], ◌∷◌, ◌++◌, Option, Some, None, refl, sym, ap, subst, ◌∙◌, is_none, nat_le, slice_get, zero, suc, arith}
 use Rattle.std.proofs.lemmas.Bool.{leb-true}
-use Rattle.std.specs.List.{AllByRecursion, find, filter}
-use Rattle.lvs_types.specs.declared.service.Proto.{Proto}
+use Rattle.std.specs.List.{AllByRecursion, find}
 use Rattle.lvs_types.specs.declared.service.Proto.TheVariants.{Tcp, Udp}
 use Rattle.lvs_types.specs.declared.addr.TemplateId.{TemplateId}
 use Rattle.lvs_types.specs.declared.entry.Key.{Key}
 use Rattle.lvs_types.specs.declared.entry.Entry.{Entry}
 use Rattle.lvs_types.specs.declared.template.TemplateKey.{TemplateKey}
-use Rattle.lvs_types.specs.declared.entry.TcpState.{TcpState}
 use Rattle.lvs_types.specs.declared.template.Template.{Template}
 use Rattle.lvs_types.specs.declared.sync.SyncItem.{SyncItem}
 use Rattle.lvs_types.specs.declared.sync.SyncItem.TheVariants.{V4, V6}
@@ -20,7 +18,7 @@ use Rattle.lvs_model.specs.Same.{proto_eq}
 use Rattle.lvs_model.specs.SyncRules.{accept, accept_item, accept_record, has_known_protocol, has_known_state, has_known_method, is_template_record}
 use Rattle.lvs_model.specs.Lists.{without}
 use Rattle.lvs_model.specs.Lookups.{entry_at, template_at, has_template_key, has_template_id}
-use Rattle.lvs_model.specs.Binding.{put_entry, try_binding, put_template, template_tried}
+use Rattle.lvs_model.specs.Binding.{put_entry, template_tried}
 use Rattle.lvs_model.specs.Incoming.{end_entry}
 use Rattle.lvs_model.specs.Learning.{states, recorded_proto, recorded_state, recorded_key, recorded_entry, add_entry, relearnt, goes_to_recorded, relearn, learn_connection, recorded_template_key, recorded_template, add_template, relearnt_template, template_goes_to_recorded, relearn_template, learn_template, learn_record, learn_item, learn_by, learn}
 use Rattle.lvs_model.specs.WellFormed.{TemplateHasServer, HasStateOfProto}
@@ -29,7 +27,7 @@ use Rattle.lvs_well_formed.proofs.Finds.{find_put}
 use Rattle.lvs_well_formed.proofs.Keys.{nat_same}
 use Rattle.lvs_well_formed.proofs.Parts.{IsSound, Parts, After, stays, then_after}
 use Rattle.lvs_well_formed.proofs.Entries.{IsEntryOf, IsFree, entries_found, entry_sound, with_entry_put, with_entry_added, ended_after}
-use Rattle.lvs_well_formed.proofs.Bindings.{IsTried, try_tried, tried_there, tried_id, tried_key}
+use Rattle.lvs_well_formed.proofs.Bindings.{try_tried, tried_there, tried_id, tried_key}
 use Rattle.lvs_well_formed.proofs.Templates.{IsTemplateOf, template_found, with_template_put, with_template_added}
 use Rattle.lvs_well_formed.proofs.Free.{free_ended, free_none, found_by_key, found_of_key}
 

@@ -1,26 +1,16 @@
 -- What leaves the state as it was.
-use Rattle.std.proofs.Common.{◌≡◌, ◌==◌, ℕ, Bool, true, false, cond, List, [], ◌∷◌, Option, Some, None, Result, Ok, Err, refl, sym, ap, subst, ◌∙◌, take}
+use Rattle.std.proofs.Common.{◌≡◌, ℕ, Bool, true, false, Option, Some, None, refl}
 use Rattle.std.specs.List.{find}
 use Rattle.lvs_types.specs.declared.addr.Addr.{Addr}
-use Rattle.lvs_types.specs.declared.head.Head.{Head}
-use Rattle.lvs_types.specs.declared.head.Malformed.{Malformed}
-use Rattle.lvs_types.specs.declared.service.Method.{Method}
-use Rattle.lvs_types.specs.declared.service.Proto.{Proto}
 use Rattle.lvs_types.specs.declared.service.Service.{Service}
 use Rattle.lvs_types.specs.declared.service.ServiceKey.{ServiceKey}
-use Rattle.lvs_types.specs.declared.service.Cursor.{Cursor}
-use Rattle.lvs_types.specs.declared.addr.TemplateId.{TemplateId}
 use Rattle.lvs_types.specs.declared.dest.Dest.{Dest}
 use Rattle.lvs_types.specs.declared.dest.DestSpec.{DestSpec}
-use Rattle.lvs_types.specs.declared.entry.Entry.{Entry}
-use Rattle.lvs_types.specs.declared.template.Template.{Template}
 use Rattle.lvs_types.specs.declared.command.Command.{Command}
 use Rattle.lvs_types.specs.declared.command.Command.TheVariants as command
 use Rattle.lvs_types.specs.declared.reply.Reply.{Reply}
 use Rattle.lvs_types.specs.declared.reply.Reply.TheVariants as reply
-use Rattle.lvs_types.specs.declared.reply.DropCause.TheVariants as drops
 use Rattle.lvs_types.specs.declared.reply.EditRefused.{EditRefused}
-use Rattle.lvs_types.specs.declared.reply.EditRefused.TheVariants as refused
 use Rattle.lvs_types.specs.declared.sync.SyncItem.{SyncItem}
 use Rattle.lvs_types.specs.declared.sync.Learnt.{Learnt}
 use Rattle.lvs_types.specs.declared.sync.Learnt.TheVariants as learnt

@@ -1,7 +1,7 @@
 -- What holds of each element of a list, through the edits that the definitions make.
-use Rattle.std.proofs.Common.{◌≡◌, ℕ, Bool, true, false, cond, not, ◌||◌, List, [], ◌∷◌, ◌++◌, Option, Some, None, refl, sym, ap, subst, slice_get, map, zero, suc}
+use Rattle.std.proofs.Common.{◌≡◌, ℕ, Bool, true, false, cond, ◌||◌, List, [], ◌∷◌, ◌++◌, Option, Some, None, refl, subst, slice_get, map, zero, suc}
 use Rattle.std.specs.List.{AllByRecursion, find, filter, filter_map, cons_option, list_any}
-use Rattle.lvs_model.specs.Lists.{update_first, without}
+use Rattle.lvs_model.specs.Lists.{update_first}
 
 pub all_weaker : {X : Type 0} (P Q : X → Type 0) (xs : List X) → ((x : X) → P x → Q x) → AllByRecursion P xs → AllByRecursion Q xs
 all_weaker P Q [] step each = tt
@@ -42,6 +42,9 @@ all_passing P Q p [] step each = tt
 all_passing P Q p (x ∷ xs) step each =
     let M : Bool → Type 0 = λ b. (b ≡ true → P x → Q x) → AllByRecursion Q (cond b (x ∷ filter p xs) (filter p xs)) in
     (elim (p x) as M [ true ↦ (λ here. (here refl each.0, all_passing P Q p xs step each.1)) | false ↦ (λ here. all_passing P Q p xs step each.1) ]) (step x)
+
+pub all_filtered : {X : Type 0} (Q : X → Type 0) (p : X → Bool) (xs : List X) → ((x : X) → p x ≡ true → Q x) → AllByRecursion Q (filter p xs)
+all_filtered Q p xs step = all_passing (λ _. Unit {0}) Q p xs (λ x here _. step x here) (all_true (λ _. Unit {0}) xs (λ _. tt))
 
 all_cons_option : {X : Type 0} (P : X → Type 0) (o : Option X) (xs : List X) → ((y : X) → o ≡ Some y → P y) → AllByRecursion P xs → AllByRecursion P (cons_option o xs)
 all_cons_option P None xs here each = each

@@ -1,6 +1,5 @@
 -- What a packet that is malformed, too long or passed on leaves.
-use Rattle.std.proofs.Common.{◌≡◌, ◌==◌, ℕ, Bool, true, false, cond, List, [], ◌∷◌, Option, Some, None, Result, Ok, Err, refl, sym, ap, subst, ◌∙◌, take, map, slice_get}
-use Rattle.std.specs.List.{find}
+use Rattle.std.proofs.Common.{◌≡◌, ℕ, Bool, true, false, cond, List, Option, Some, None, Result, Ok, Err, refl, subst, take, map, slice_get}
 use Rattle.lvs_types.specs.declared.addr.Addr.{Addr}
 use Rattle.lvs_types.specs.declared.addr.TemplateId.{TemplateId}
 use Rattle.lvs_types.specs.declared.head.Head.{Head}
@@ -14,7 +13,6 @@ use Rattle.lvs_types.specs.declared.entry.Entry.{Entry}
 use Rattle.lvs_types.specs.declared.template.Template.{Template}
 use Rattle.lvs_types.specs.declared.reply.Reply.{Reply}
 use Rattle.lvs_types.specs.declared.reply.Reply.TheVariants as reply
-use Rattle.lvs_types.specs.declared.reply.DropCause.{DropCause}
 use Rattle.lvs_types.specs.declared.reply.DropCause.TheVariants as drops
 use Rattle.lvs_model.specs.State.{State}
 use Rattle.lvs_model.specs.Reading.{read}
@@ -26,8 +24,8 @@ use Rattle.lvs_model.specs.Packets.{Packet, transport_of, key_of, may_connect}
 use Rattle.lvs_model.specs.Binding.{try_binding, put_template, template_tried}
 use Rattle.lvs_model.specs.Persistence.{template_key, usable_server}
 use Rattle.lvs_model.specs.Forwarding.{forwarded, forward_known}
-use Rattle.lvs_model.specs.Scheduling.{connect_to, enter, new_entry, port_at, is_one_packet, with_cursor, new_template, replace_template, take_pick, pick_at, picked, schedule, renewed, use_template, try_template, persist_by, serve_packet, admit, connect}
-use Rattle.lvs_model.specs.Incoming.{end_entry, gone, continue, continue_at, continue_bound, arrive, take_back, incoming_packet, incoming_of, incoming_read, incoming, server_named, is_reused, is_trashed}
+use Rattle.lvs_model.specs.Scheduling.{connect_to, enter, new_entry, port_at, is_one_packet, with_cursor, new_template, replace_template, take_pick, pick_at, picked, schedule, renewed, use_template, persist_by, serve_packet, admit, connect}
+use Rattle.lvs_model.specs.Incoming.{end_entry, gone, continue, arrive, take_back, incoming_packet, incoming_of, incoming_read, incoming, server_named, is_reused, is_trashed}
 use Rattle.lvs_model.specs.Outgoing.{answer_out, outgoing_of, outgoing_read, outgoing}
 use Rattle.lvs_well_formed.specs.Passing.{entry_of_head, entry_of_read, entry_of_packet, passed}
 

@@ -1,27 +1,25 @@
 -- Incoming and outgoing packets keep the state well formed.
-use Rattle.std.proofs.Common.{◌≡◌, ◌==◌, ℕ, Bool, true, false, cond, not, ◌&&◌, List, [], ◌∷◌, Option, Some, None, Result, Ok, Err, refl, sym, ap, subst, ◌∙◌, take, nat_le}
+use Rattle.std.proofs.Common.{◌≡◌, ◌==◌, ℕ, Bool, true, false, cond, List, [], ◌∷◌, Option, Some, None, Result, Ok, Err, refl, subst, ◌∙◌, take, nat_le}
 use Rattle.std.specs.List.{AllByRecursion, find, filter}
 use Rattle.lvs_types.specs.declared.head.Head.{Head}
 use Rattle.lvs_types.specs.declared.head.Malformed.{Malformed}
 use Rattle.lvs_types.specs.declared.service.Proto.{Proto}
-use Rattle.lvs_types.specs.declared.dest.Dest.{Dest}
 use Rattle.lvs_types.specs.declared.entry.Entry.{Entry}
 use Rattle.lvs_types.specs.declared.entry.Direction.TheVariants.{Output}
 use Rattle.lvs_types.specs.declared.reply.Reply.{Reply}
 use Rattle.lvs_types.specs.declared.reply.Reply.TheVariants as reply
 use Rattle.lvs_types.specs.declared.reply.DropCause.TheVariants as drops
 use Rattle.lvs_model.specs.State.{State}
-use Rattle.lvs_model.specs.Reading.{read}
 use Rattle.lvs_model.specs.Lists.{lower_of, least_by}
-use Rattle.lvs_model.specs.Lookups.{entry_at, has_key, reply_entry, is_reply_of, has_entry_id}
+use Rattle.lvs_model.specs.Lookups.{entry_at, reply_entry, is_reply_of, has_entry_id}
 use Rattle.lvs_model.specs.Packets.{Packet, transport_of, key_of}
-use Rattle.lvs_model.specs.Binding.{try_binding, put_entry}
+use Rattle.lvs_model.specs.Binding.{try_binding}
 use Rattle.lvs_model.specs.Forwarding.{state_after, in_state}
-use Rattle.lvs_model.specs.Incoming.{end_entry, gone, continue, continue_at, continue_bound, arrive, take_back, incoming_packet, incoming_of, incoming_read, server_named, is_reused, is_trashed}
+use Rattle.lvs_model.specs.Incoming.{end_entry, continue, arrive, take_back, incoming_packet, incoming_of, incoming_read, server_named, is_reused, is_trashed}
 use Rattle.lvs_model.specs.Outgoing.{answer_out, outgoing_of, outgoing_read}
 use Rattle.lvs_well_formed.proofs.Lists.{all_filter}
-use Rattle.lvs_well_formed.proofs.Parts.{IsSound, Parts, After, stays, then_after}
-use Rattle.lvs_well_formed.proofs.Entries.{IsEntryOf, IsFree, entries_found, entry_sound, with_entry_put, ended_after}
+use Rattle.lvs_well_formed.proofs.Parts.{Parts, After, stays, then_after}
+use Rattle.lvs_well_formed.proofs.Entries.{IsEntryOf, entries_found, entry_sound, with_entry_put, ended_after}
 use Rattle.lvs_well_formed.proofs.Bindings.{IsTried, try_tried}
 use Rattle.lvs_well_formed.proofs.Free.{free_ended, free_none, found_by_key, found_of_key}
 use Rattle.lvs_well_formed.proofs.Forwards.{known_after, state_stays}

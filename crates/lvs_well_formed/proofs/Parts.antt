@@ -1,5 +1,5 @@
 -- The well formed state by its lists, so that a change of one list leaves the facts of the others.
-use Rattle.std.proofs.Common.{◌≡◌, ℕ, List, [], ◌∷◌, Option, Some, None, refl}
+use Rattle.std.proofs.Common.{◌≡◌, ℕ, List, [], ◌∷◌, None}
 use Rattle.std.specs.List.{AllByRecursion, IsDistinct}
 use Rattle.lvs_types.specs.declared.service.Service.{Service}
 use Rattle.lvs_types.specs.declared.dest.Dest.{Dest}
@@ -8,7 +8,7 @@ use Rattle.lvs_types.specs.declared.template.Template.{Template}
 use Rattle.lvs_model.specs.State.{State}
 use Rattle.lvs_model.specs.Same.{key_eq, service_key_eq, template_key_eq}
 use Rattle.lvs_model.specs.WellFormed.{IsWellFormed, AreDrawn, HasService, HasCursor, HasGoodThresholds, HasServer, TemplateHasServer, GoesToServer, HoldsOlder, HasStateOfProto, place_eq, places, service_keys, entry_keys, template_keys, entry_ids, dest_ids, template_ids}
-use Rattle.lvs_well_formed.specs.Rising.{Rises, IdsRise}
+use Rattle.lvs_well_formed.specs.Rising.{IdsRise}
 use Rattle.lvs_well_formed.proofs.Ids.{rises_same, rises_then}
 
 pub record AreServices (services : List Service) (dests : List Dest) : Type 0 where

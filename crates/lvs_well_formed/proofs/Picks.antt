@@ -1,7 +1,7 @@
 -- The cursor that a pick leaves is the old one, or names one of the candidates.
-use Rattle.std.proofs.Common.{◌≡◌, ◌==◌, ℕ, ◌+◌, Bool, true, false, cond, List, [], ◌∷◌, ◌++◌, Option, Some, None, refl, sym, ap, subst, map, take, drop, nat_le, zero, suc}
+use Rattle.std.proofs.Common.{◌≡◌, ℕ, ◌+◌, List, [], ◌∷◌, ◌++◌, Option, Some, None, refl, subst, map, take, drop}
 use Rattle.std.specs.Option.{option_map}
-use Rattle.std.specs.List.{AllByRecursion, find, enumerate_from, position_or_len, after_first}
+use Rattle.std.specs.List.{AllByRecursion, find, enumerate_from, position_or_len}
 use Rattle.std.proofs.lemmas.List.Elements.{All-from_recursion, recursion_from_All, All-take, All-drop}
 use Rattle.lvs_types.specs.declared.addr.Addr.{Addr}
 use Rattle.lvs_types.specs.declared.addr.DestId.{DestId}
@@ -43,7 +43,7 @@ rr_last P cs cursor choice each is =
     let Q : (ℕ × Candidate) → Type 0 = λ p. P (Some p.1.id) in
     let all : AllByRecursion Q (placed cs) = all_enumerated (λ (c : Candidate). P (Some c.id)) 0 cs each in
     let turned : AllByRecursion Q (after_last cs cursor ++ through_last cs cursor) =
-        all_append Q (after_last cs cursor) (through_last cs cursor) (all_drop Q (position_or_len (is_last cursor) (placed cs) + 1) (placed cs) all) (all_take Q (position_or_len (is_last cursor) (placed cs) + 1) (placed cs) all) in
+    all_append Q (after_last cs cursor) (through_last cs cursor) (all_drop Q (position_or_len (is_last cursor) (placed cs) + 1) (placed cs) all) (all_take Q (position_or_len (is_last cursor) (placed cs) + 1) (placed cs) all) in
     mapped (λ (turn : ℕ × Cursor). P turn.1.last) (turn_of cursor) (find (λ (p : ℕ × Candidate). p.1.eligible) (after_last cs cursor ++ through_last cs cursor)) choice
     (λ p found. all_find Q (λ (q : ℕ × Candidate). q.1.eligible) (after_last cs cursor ++ through_last cs cursor) p turned found) is
 
@@ -54,9 +54,9 @@ wrr_last P cs cursor choice each is =
     let all : AllByRecursion Q (placed cs) = all_enumerated (λ (c : Candidate). P (Some c.id)) 0 cs each in
     let number = next_number (eligible_weights cs) cursor.cw in
     let offered : AllByRecursion R (offers cs cursor) =
-        all_append R (map (offer cursor.cw) (after_last cs cursor)) (map (offer number) (placed cs))
-        (all_map R (offer cursor.cw) (after_last cs cursor) (all_drop Q (position_or_len (is_last cursor) (placed cs) + 1) (placed cs) all))
-        (all_map R (offer number) (placed cs) all) in
+    all_append R (map (offer cursor.cw) (after_last cs cursor)) (map (offer number) (placed cs))
+    (all_map R (offer cursor.cw) (after_last cs cursor) (all_drop Q (position_or_len (is_last cursor) (placed cs) + 1) (placed cs) all))
+    (all_map R (offer number) (placed cs) all) in
     mapped (λ (turn : ℕ × Cursor). P turn.1.last) offer_turn (find is_taken (offers cs cursor)) choice
     (λ o found. all_find R is_taken (offers cs cursor) o offered found) is
 

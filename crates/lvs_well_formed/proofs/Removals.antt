@@ -1,7 +1,6 @@
 -- Servers that leave their services keep the state well formed.
-use Rattle.std.proofs.Common.{◌≡◌, ◌==◌, ℕ, ◌+◌, Bool, true, false, cond, not, ◌&&◌, List, [], ◌∷◌, Option, Some, None, refl, sym, ap, subst, ◌∙◌, map}
-use Rattle.std.proofs.lemmas.Bool.{and_parts}
-use Rattle.std.specs.List.{AllByRecursion, IsDistinct, find, filter, filter_map, list_any}
+use Rattle.std.proofs.Common.{◌≡◌, ◌==◌, Bool, true, false, cond, List, Option, Some, None, refl, sym, subst}
+use Rattle.std.specs.List.{AllByRecursion, IsDistinct}
 use Rattle.lvs_types.specs.declared.addr.DestId.{DestId}
 use Rattle.lvs_types.specs.declared.service.ServiceKey.{ServiceKey}
 use Rattle.lvs_types.specs.declared.service.Service.{Service}
@@ -11,17 +10,17 @@ use Rattle.lvs_types.specs.declared.template.Template.{Template}
 use Rattle.lvs_model.specs.State.{State}
 use Rattle.lvs_model.specs.Same.{service_key_eq}
 use Rattle.lvs_model.specs.Counts.{refs}
-use Rattle.lvs_model.specs.Lookups.{dest_at, has_dest_id, has_service_key, is_server_of}
-use Rattle.lvs_model.specs.Edits.{trashed, leaving, remove_dests}
+use Rattle.lvs_model.specs.Lookups.{dest_at, has_dest_id, is_server_of}
+use Rattle.lvs_model.specs.Edits.{leaving, remove_dests}
 use Rattle.lvs_model.specs.WellFormed.{HasService, HasCursor, HasGoodThresholds, IsLastOf, is_live_server, place_eq, place_of, service_keys}
 use Rattle.lvs_well_formed.proofs.Lists.{all_weaker, all_filter_map, find_passes}
 use Rattle.lvs_well_formed.proofs.Distinct.{distinct_filter_map}
 use Rattle.lvs_well_formed.proofs.Finds.{find_filter_map}
 use Rattle.lvs_well_formed.proofs.Keys.{dest_id_true}
 use Rattle.lvs_well_formed.proofs.Ids.{goes_filter_map}
-use Rattle.lvs_well_formed.proofs.Parts.{AreServices, Parts, After, ids_stay}
+use Rattle.lvs_well_formed.proofs.Parts.{Parts, After, ids_stay}
 use Rattle.lvs_well_formed.proofs.Counting.{IsKept, entries_kept, templates_kept}
-use Rattle.lvs_well_formed.proofs.Alike.{Stays, StaysNamed, stays_from, entries_stay, templates_stay}
+use Rattle.lvs_well_formed.proofs.Alike.{Stays, StaysNamed, found_stays, stays_from, entries_stay, templates_stay}
 
 -- what is left of a server: itself, or itself in the trash
 left_by : (P : Dest → Type 0) (leaves none : Bool) (d later : Dest) → cond leaves (cond none None (Some (record d { live = false }))) (Some d) ≡ Some later → (leaves ≡ true → P (record d { live = false })) → (leaves ≡ false → P d) → P later
@@ -50,10 +49,6 @@ pub dest_stays : (q : Dest → Bool) (es : List Entry) (ts : List Template) (ds 
 dest_stays q es ts ds id d differs found =
     find_filter_map (has_dest_id id) (leaving q es ts) ds d d (λ a b is. same_id q es ts id a b is) found (stays_by (q d) (refs d.id es ts == 0) d differs)
 
-found_stays : (d later : Dest) (o : Option Dest) → o ≡ Some later → place_of later ≡ place_of d → Stays (Some d) o
-found_stays d later None is place = absurd cc
-found_stays d later (Some other) is place = let same : other ≡ later = cc in ap place_of same ∙ place
-
 dest_kept : (q : Dest → Bool) (es : List Entry) (ts : List Template) (ds : List Dest) (id : DestId) (d : Dest) → (refs id es ts == 0) ≡ false → dest_at id ds ≡ Some d → Stays (Some d) (dest_at id (remove_dests q es ts ds))
 dest_kept q es ts ds id d named found =
     let same = dest_id_true d.id id (find_passes (has_dest_id id) ds d found) in
@@ -76,7 +71,7 @@ removed_after s services q keys has cursors p =
         services = record {
           keys = keys;
           live = all_filter_map (HasService s.services) (HasService services) h s.dests
-            (λ d other is old. left_keeps (HasService services) q s.entries s.templates d other is (λ leaves live. absurd cc) (λ stays. has d stays old)) p.services.live;
+              (λ d other is old. left_keeps (HasService services) q s.entries s.templates d other is (λ leaves live. absurd cc) (λ stays. has d stays old)) p.services.live;
           cursors = cursors;
         };
         dests = record {
@@ -85,9 +80,9 @@ removed_after s services q keys has cursors p =
           thresholds = all_filter_map HasGoodThresholds HasGoodThresholds h s.dests (λ d other is good. left_keeps HasGoodThresholds q s.entries s.templates d other is (λ _. good) (λ _. good)) p.dests.thresholds;
         };
         entries = entries_stay s.next_entry s.next_template s.dests later s.entries
-          (all_weaker (λ (e : Entry). IsKept s.entries s.templates e.server) (λ (e : Entry). StaysNamed s.dests later e.server) s.entries (λ e kept. named_kept q s.entries s.templates s.dests e.server kept) (entries_kept s.entries s.templates)) p.entries;
+            (all_weaker (λ (e : Entry). IsKept s.entries s.templates e.server) (λ (e : Entry). StaysNamed s.dests later e.server) s.entries (λ e kept. named_kept q s.entries s.templates s.dests e.server kept) (entries_kept s.entries s.templates)) p.entries;
         templates = templates_stay s.next_template s.dests later s.templates
-          (all_weaker (λ (t : Template). IsKept s.entries s.templates t.server) (λ (t : Template). StaysNamed s.dests later t.server) s.templates (λ t kept. named_kept q s.entries s.templates s.dests t.server kept) (templates_kept s.entries s.templates)) p.templates;
+            (all_weaker (λ (t : Template). IsKept s.entries s.templates t.server) (λ (t : Template). StaysNamed s.dests later t.server) s.templates (λ t kept. named_kept q s.entries s.templates s.dests t.server kept) (templates_kept s.entries s.templates)) p.templates;
         pending = p.pending;
       };
       ids = record { entries = (ids_stay s).entries; dests = goes.rises; templates = (ids_stay s).templates };

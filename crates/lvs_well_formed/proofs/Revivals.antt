@@ -1,64 +1,51 @@
 -- A server that is taken back from the trash keeps the state well formed.
-use Rattle.std.proofs.Common.{◌≡◌, ◌==◌, ℕ, ◌+◌, Bool, true, false, cond, not, ◌&&◌, ◌||◌, List, [], ◌∷◌, ◌++◌, Option, Some, None, refl, sym, ap, subst, ◌∙◌, map}
-use Rattle.std.proofs.lemmas.Bool.{and_parts}
-use Rattle.std.specs.List.{AllByRecursion, IsDistinct, find, filter, list_any}
+use Rattle.std.proofs.Common.{◌≡◌, Bool, true, false, not, List, [], ◌∷◌, ◌++◌, Option, Some, None, refl, sym, ap, subst, ◌∙◌}
+use Rattle.std.proofs.lemmas.Bool.{and_parts, not-true, not_from_false}
+use Rattle.std.specs.List.{AllByRecursion}
 use Rattle.lvs_types.specs.declared.addr.DestId.{DestId}
 use Rattle.lvs_types.specs.declared.service.ServiceKey.{ServiceKey}
-use Rattle.lvs_types.specs.declared.service.Service.{Service}
 use Rattle.lvs_types.specs.declared.dest.Dest.{Dest}
 use Rattle.lvs_types.specs.declared.entry.Entry.{Entry}
 use Rattle.lvs_types.specs.declared.template.Template.{Template}
 use Rattle.lvs_model.specs.State.{State}
 use Rattle.lvs_model.specs.Same.{service_key_eq, dest_id_eq}
 use Rattle.lvs_model.specs.Lists.{without}
-use Rattle.lvs_model.specs.Lookups.{dest_at, has_dest_id, is_server_of}
+use Rattle.lvs_model.specs.Lookups.{dest_at, has_dest_id}
 use Rattle.lvs_model.specs.WellFormed.{HasService, HasCursor, HasGoodThresholds, IsLastOf, is_live_server, place_eq, place_of, dest_ids}
 use Rattle.lvs_well_formed.specs.Rising.{is_among}
-use Rattle.lvs_well_formed.proofs.Lists.{all_weaker, all_true, all_passing, all_push, all_filter, all_find, all_unmap, find_passes}
+use Rattle.lvs_well_formed.proofs.Lists.{all_weaker, all_true, all_filtered, all_push, all_filter, all_find, all_unmap, find_passes}
 use Rattle.lvs_well_formed.proofs.Distinct.{distinct_push, distinct_filter, others_apart}
 use Rattle.lvs_well_formed.proofs.Finds.{find_push, find_filter, find_last}
 use Rattle.lvs_well_formed.proofs.Keys.{dest_id_true, nat_same, place_flip}
 use Rattle.lvs_well_formed.proofs.Ids.{goes_moved, all_among}
 use Rattle.lvs_well_formed.proofs.Parts.{Parts, After, ids_stay}
-use Rattle.lvs_well_formed.proofs.Alike.{Stays, StaysNamed, stays_from, all_named, entries_stay, templates_stay}
+use Rattle.lvs_well_formed.proofs.Alike.{Stays, StaysNamed, found_stays, stays_from, all_named, entries_stay, templates_stay}
 
 -- the server of this one's id leaves, and this one stands last
 abbrev pub moved : Dest → List Dest → List Dest
 moved new ds = without (has_dest_id new.id) ds ++ new ∷ []
 
-not_true : (b : Bool) → b ≡ false → not b ≡ true
-not_true true is = absurd cc
-not_true false is = refl
-
-not_false : (b : Bool) → not b ≡ true → b ≡ false
-not_false true is = absurd cc
-not_false false is = refl
-
 moved_other : (ds : List Dest) (new d : Dest) (id : DestId) → dest_id_eq id new.id ≡ false → dest_at id ds ≡ Some d → dest_at id (moved new ds) ≡ Some d
 moved_other ds new d id differs found =
     let same = dest_id_true d.id id (find_passes (has_dest_id id) ds d found) in
-    let stays = not_true (dest_id_eq d.id new.id) (subst (λ i. dest_id_eq i new.id ≡ false) (sym same) differs) in
+    let stays = not_from_false (dest_id_eq d.id new.id) (subst (λ i. dest_id_eq i new.id ≡ false) (sym same) differs) in
     find_push (has_dest_id id) (without (has_dest_id new.id) ds) d new (find_filter (has_dest_id id) (λ (x : Dest). not (has_dest_id new.id x)) ds d found stays)
 
 moved_new : (ds : List Dest) (new : Dest) → dest_at new.id (moved new ds) ≡ Some new
 moved_new ds new =
     find_last (has_dest_id new.id) (without (has_dest_id new.id) ds) new
-    (all_passing (λ (x : Dest). Unit {0}) (λ (x : Dest). has_dest_id new.id x ≡ false) (λ (x : Dest). not (has_dest_id new.id x)) ds (λ x differs _. not_false (has_dest_id new.id x) differs) (all_true (λ (x : Dest). Unit {0}) ds (λ x. tt)))
+    (all_filtered (λ (x : Dest). has_dest_id new.id x ≡ false) (λ (x : Dest). not (has_dest_id new.id x)) ds (λ x differs. not-true (has_dest_id new.id x) differs))
     (nat_same new.id.0)
-
-found_stays : (d later : Dest) (o : Option Dest) → o ≡ Some later → place_of later ≡ place_of d → Stays (Some d) o
-found_stays d later None is place = absurd cc
-found_stays d later (Some other) is place = let same : other ≡ later = cc in ap place_of same ∙ place
 
 -- by whether the id is that of the server that moved
 moved_by : (b : Bool) (ds : List Dest) (new old : Dest) (id : DestId) → dest_id_eq id new.id ≡ b → dest_at new.id ds ≡ Some old → place_of new ≡ place_of old → Stays (dest_at id ds) (dest_at id (moved new ds))
 moved_by true ds new old id same found place =
     stays_from (dest_at id ds) (dest_at id (moved new ds))
     (λ d is.
-      let equal = dest_id_true id new.id same in
-      let at_new : dest_at new.id ds ≡ Some d = subst (λ i. dest_at i ds ≡ Some d) equal is in
-      let is_old : old ≡ d = cc in
-      found_stays d new (dest_at id (moved new ds)) (subst (λ i. dest_at i (moved new ds) ≡ Some new) (sym equal) (moved_new ds new)) (place ∙ ap place_of is_old))
+    let equal = dest_id_true id new.id same in
+    let at_new : dest_at new.id ds ≡ Some d = subst (λ i. dest_at i ds ≡ Some d) equal is in
+    let is_old : old ≡ d = cc in
+    found_stays d new (dest_at id (moved new ds)) (subst (λ i. dest_at i (moved new ds) ≡ Some new) (sym equal) (moved_new ds new)) (place ∙ ap place_of is_old))
 moved_by false ds new old id differs found place =
     stays_from (dest_at id ds) (dest_at id (moved new ds)) (λ d is. found_stays d d (dest_at id (moved new ds)) (moved_other ds new d id differs is) refl)
 
@@ -102,8 +89,8 @@ moved_after s new old found place trashed has good p =
         dests = record {
           ids = goes.drawn;
           places = distinct_push place_eq place_of rest new
-            (subst (λ at. AllByRecursion (λ (x : Dest). place_eq (place_of x) at ≡ false) rest) (sym place) (others_apart place_eq place_of (has_dest_id new.id) s.dests old place_flip p.dests.places found))
-            (distinct_filter place_eq place_of test s.dests p.dests.places);
+              (subst (λ at. AllByRecursion (λ (x : Dest). place_eq (place_of x) at ≡ false) rest) (sym place) (others_apart place_eq place_of (has_dest_id new.id) s.dests old place_flip p.dests.places found))
+              (distinct_filter place_eq place_of test s.dests p.dests.places);
           thresholds = all_push HasGoodThresholds rest new (all_filter HasGoodThresholds test s.dests p.dests.thresholds) good;
         };
         entries = entries_stay s.next_entry s.next_template s.dests later s.entries (all_true (λ (e : Entry). StaysNamed s.dests later e.server) s.entries (λ e. all_named s.dests later (moved_stays s.dests new old found place) e.server)) p.entries;

@@ -1,13 +1,10 @@
 -- A new connection keeps the state well formed: its service, its template, the pick and its entry.
-use Rattle.std.proofs.Common.{◌≡◌, ◌==◌, ◌<◌, ◌+◌, ℕ, Bool, true, false, cond, not, ◌&&◌, ◌||◌, List, [], ◌∷◌, ◌++◌, Option, Some, None, refl, sym, ap, subst, is_some, ◌∙◌, nat_eq, map, slice_get, arith}
-use Rattle.std.proofs.lemmas.Bool.{and_parts}
+use Rattle.std.proofs.Common.{◌≡◌, ◌==◌, ℕ, Bool, true, false, cond, List, [], ◌∷◌, Option, Some, None, refl, sym, ap, subst, is_some, ◌∙◌, map, slice_get, arith}
 use Rattle.std.specs.Option.{option_or}
-use Rattle.std.specs.List.{AllByRecursion, IsDistinct, find, filter, list_any}
+use Rattle.std.specs.List.{AllByRecursion, IsDistinct, find, list_any}
 use Rattle.lvs_types.specs.declared.addr.Addr.{Addr}
 use Rattle.lvs_types.specs.declared.addr.DestId.{DestId}
-use Rattle.lvs_types.specs.declared.addr.TemplateId.{TemplateId}
 use Rattle.lvs_types.specs.declared.service.Proto.{Proto}
-use Rattle.lvs_types.specs.declared.service.Proto.TheVariants.{Tcp, Udp}
 use Rattle.lvs_types.specs.declared.service.ServiceKey.{ServiceKey}
 use Rattle.lvs_types.specs.declared.service.ServiceKey.TheVariants.{Net, Mark}
 use Rattle.lvs_types.specs.declared.service.Service.{Service}
@@ -17,7 +14,7 @@ use Rattle.lvs_types.specs.declared.dest.Dest.{Dest}
 use Rattle.lvs_types.specs.declared.dest.Candidate.{Candidate}
 use Rattle.lvs_types.specs.declared.template.Template.{Template}
 use Rattle.lvs_model.specs.State.{State}
-use Rattle.lvs_model.specs.Same.{service_key_eq, dest_id_eq}
+use Rattle.lvs_model.specs.Same.{service_key_eq}
 use Rattle.lvs_model.specs.Lists.{update_first}
 use Rattle.lvs_model.specs.Counts.{candidates, candidate_of}
 use Rattle.lvs_model.specs.Pick.{pick}
@@ -25,13 +22,13 @@ use Rattle.lvs_model.specs.Lookups.{dest_at, has_dest_id, find_service, marked_s
 use Rattle.lvs_model.specs.Packets.{Packet, key_of, may_connect}
 use Rattle.lvs_model.specs.Binding.{put_template, template_tried}
 use Rattle.lvs_model.specs.Persistence.{template_key, usable_server, usable, takes_templates}
-use Rattle.lvs_model.specs.Scheduling.{connect_to, with_cursor, new_template, replace_template, take_pick, pick_at, picked, schedule, renewed, use_template, try_template, persist_by, serve_packet, admit, connect}
-use Rattle.lvs_model.specs.WellFormed.{IsLastOf, is_live_server, HasCursor, HasService, TemplateHasServer, IsThere, IsOlder, service_keys}
-use Rattle.lvs_well_formed.proofs.Lists.{all_weaker, all_both, all_find, all_get, all_filter, all_passing, all_map, all_update, find_passes}
+use Rattle.lvs_model.specs.Scheduling.{with_cursor, new_template, replace_template, take_pick, pick_at, picked, schedule, renewed, use_template, try_template, persist_by, serve_packet, admit, connect}
+use Rattle.lvs_model.specs.WellFormed.{IsLastOf, is_live_server, HasCursor, HasService, TemplateHasServer, service_keys}
+use Rattle.lvs_well_formed.proofs.Lists.{all_weaker, all_find, all_get, all_filter, all_passing, all_map, all_update, find_passes}
 use Rattle.lvs_well_formed.proofs.Distinct.{keys_update}
 use Rattle.lvs_well_formed.proofs.Finds.{find_put}
 use Rattle.lvs_well_formed.proofs.Keys.{nat_same, service_key_true, dest_id_true}
-use Rattle.lvs_well_formed.proofs.Parts.{AreServices, Parts, After, ids_stay, stays, then_after}
+use Rattle.lvs_well_formed.proofs.Parts.{Parts, After, ids_stay, stays, then_after}
 use Rattle.lvs_well_formed.proofs.Entries.{IsFree, dests_found}
 use Rattle.lvs_well_formed.proofs.Bindings.{tried_there, tried_id, tried_key}
 use Rattle.lvs_well_formed.proofs.Templates.{IsTemplateOf, template_found, template_older, with_template_put, with_template_added}
@@ -150,7 +147,7 @@ try_template_after s p service seconds old t is id key there has new parts =
     let put : State = record s { templates = put_template t s.templates } in
     then_after s put (try_template s p service seconds t).1 (with_template_put s old t is id key there parts)
     (λ q. use_template_after put p service seconds t (usable_server s.settings s.dests t.server) (λ d found. usable_found s.settings s.dests t.server d found)
-      (find_put (has_template_id t.id) t s.templates old is (nat_same t.id.0)) has new q)
+    (find_put (has_template_id t.id) t s.templates old is (nat_same t.id.0)) has new q)
 
 persist_after : (s : State) (p : Packet) (service : Service) (seconds : ℕ) (o : Option Template) → ((t : Template) → o ≡ Some t → IsTemplateOf s t) → HasCursor s.dests service → IsNew s p → Parts s → After s (persist_by s p service seconds o).1
 persist_after s p service seconds None is has new parts = schedule_after s p service has new parts

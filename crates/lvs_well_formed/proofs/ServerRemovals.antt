@@ -1,23 +1,22 @@
 -- A server that is removed from its service keeps the state well formed: its cursor steps back.
-use Rattle.std.proofs.Common.{◌≡◌, ◌==◌, ℕ, ◌+◌, Bool, true, false, cond, not, ◌&&◌, ◌||◌, List, [], ◌∷◌, ◌++◌, Option, Some, None, refl, sym, ap, subst, ◌∙◌, map}
+use Rattle.std.proofs.Common.{◌≡◌, ℕ, Bool, true, false, cond, List, [], ◌∷◌, Option, Some, None, refl, sym, subst, ◌∙◌, map}
 use Rattle.std.proofs.lemmas.Bool.{and_parts, false_from_ne_true, both_ways}
-use Rattle.std.specs.List.{AllByRecursion, IsDistinct, find, filter, list_any}
+use Rattle.std.specs.List.{AllByRecursion, IsDistinct, find}
 use Rattle.lvs_types.specs.declared.addr.Addr.{Addr}
 use Rattle.lvs_types.specs.declared.addr.DestId.{DestId}
 use Rattle.lvs_types.specs.declared.service.ServiceKey.{ServiceKey}
 use Rattle.lvs_types.specs.declared.service.Service.{Service}
-use Rattle.lvs_types.specs.declared.service.Cursor.{Cursor}
 use Rattle.lvs_types.specs.declared.dest.Dest.{Dest}
 use Rattle.lvs_model.specs.State.{State}
 use Rattle.lvs_model.specs.Same.{service_key_eq, dest_id_eq, dest_eq}
 use Rattle.lvs_model.specs.Lists.{update_first}
 use Rattle.lvs_model.specs.Lookups.{dest_at, has_dest_id, has_service_key, is_server_of, servers_of, stands_at, is_server_at}
 use Rattle.lvs_model.specs.Edits.{server_before, step_back, remove_dest, remove_dests, remove_server_at, remove_server_by}
-use Rattle.lvs_model.specs.WellFormed.{HasService, HasCursor, IsLastOf, is_live_server, service_keys}
-use Rattle.lvs_well_formed.proofs.Lists.{all_weaker, all_both, all_passing, all_find, all_unmap, find_passes}
+use Rattle.lvs_model.specs.WellFormed.{HasCursor, IsLastOf, is_live_server, service_keys}
+use Rattle.lvs_well_formed.proofs.Lists.{all_both, all_passing, all_find, all_unmap, find_passes}
 use Rattle.lvs_well_formed.proofs.Distinct.{distinct_parts, keys_update}
-use Rattle.lvs_well_formed.proofs.Keys.{service_key_true, service_key_same, service_key_flip, dest_id_true, nat_same}
-use Rattle.lvs_well_formed.proofs.Parts.{AreServices, Parts, After, stays}
+use Rattle.lvs_well_formed.proofs.Keys.{service_key_true, service_key_flip, dest_id_true}
+use Rattle.lvs_well_formed.proofs.Parts.{Parts, After, stays}
 use Rattle.lvs_well_formed.proofs.Entries.{dests_found}
 use Rattle.lvs_well_formed.proofs.Removals.{removed_after, last_left, dest_stays}
 use Rattle.lvs_well_formed.proofs.Services.{other_server}
@@ -32,7 +31,7 @@ all_update_one P Q eq key p f (x ∷ xs) other first rest apart each =
     let differ = all_unmap (λ k. eq (key x) k ≡ false) key xs parts.0 in
     let M : Bool → Type 0 = λ b. p x ≡ b → AllByRecursion Q (cond b (f x ∷ xs) (x ∷ update_first p f xs)) in
     (elim (p x) as M [
-      true ↦ (λ here. (first x here each.0, all_both (λ y. eq (key x) (key y) ≡ false) P Q xs (λ y differs old. rest y (other x y here differs) old) differ each.1))
+      | true ↦ (λ here. (first x here each.0, all_both (λ y. eq (key x) (key y) ≡ false) P Q xs (λ y differs old. rest y (other x y here differs) old) differ each.1))
       | false ↦ (λ here. (rest x here each.0, all_update_one P Q eq key p f xs other first rest parts.1 each.1))
     ]) refl
 
@@ -86,13 +85,13 @@ other_cursor : (s : State) (key : ServiceKey) (d : Dest) (service : Service) →
 other_cursor s key d service differs found own last =
     last_left (has_dest_id d.id) s.entries s.templates s.dests service.key service.cursor.last
     (λ named other is found_other live.
-      false_from_ne_true (has_dest_id d.id other)
-      (λ same.
-        let ids : other.id ≡ named = dest_id_true other.id named (find_passes (has_dest_id named) s.dests other found_other) in
-        let to_d : other.id ≡ d.id = dest_id_true other.id d.id same in
-        let at_d : dest_at d.id s.dests ≡ Some other = subst (λ i. dest_at i s.dests ≡ Some other) (sym ids ∙ to_d) found_other in
-        let equal : other ≡ d = cc in
-        both_ways (is_server_of key d) (other_server key service.key d differs (subst (λ x. is_server_of service.key x ≡ true) equal live)) own)) last
+    false_from_ne_true (has_dest_id d.id other)
+    (λ same.
+    let ids : other.id ≡ named = dest_id_true other.id named (find_passes (has_dest_id named) s.dests other found_other) in
+    let to_d : other.id ≡ d.id = dest_id_true other.id d.id same in
+    let at_d : dest_at d.id s.dests ≡ Some other = subst (λ i. dest_at i s.dests ≡ Some other) (sym ids ∙ to_d) found_other in
+    let equal : other ≡ d = cc in
+    both_ways (is_server_of key d) (other_server key service.key d differs (subst (λ x. is_server_of service.key x ≡ true) equal live)) own)) last
 
 -- REMOVAL
 
@@ -108,9 +107,9 @@ remove_dest_after s key d found own p =
     removed_after s services (has_dest_id d.id) (subst (λ keys. IsDistinct service_key_eq keys) (sym same) p.services.keys)
     (λ x stays has live. has_service_same s.services services x.service same ∙ has live)
     (all_update_one (HasCursor s.dests) (HasCursor (remove_dests (has_dest_id d.id) s.entries s.templates s.dests)) service_key_eq (λ (x : Service). x.key) (has_service_key key) back s.services
-      (λ x y here differs. service_key_flip key y.key (subst (λ k. service_key_eq k y.key ≡ false) (service_key_true x.key key here) differs))
-      (λ x here last. own_cursor s key d.id x (service_key_true x.key key here) p last)
-      (λ x differs last. other_cursor s key d x differs found own last) p.services.keys p.services.cursors) p
+    (λ x y here differs. service_key_flip key y.key (subst (λ k. service_key_eq k y.key ≡ false) (service_key_true x.key key here) differs))
+    (λ x here last. own_cursor s key d.id x (service_key_true x.key key here) p last)
+    (λ x differs last. other_cursor s key d x differs found own last) p.services.keys p.services.cursors) p
 
 remove_at_after : (s : State) (key : ServiceKey) (o : Option Dest) → ((d : Dest) → o ≡ Some d → dest_at d.id s.dests ≡ Some d) → ((d : Dest) → o ≡ Some d → is_server_of key d ≡ true) → Parts s → After s (remove_server_at s key o).1
 remove_at_after s key None found own p = stays s p

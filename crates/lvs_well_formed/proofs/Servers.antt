@@ -1,40 +1,35 @@
 -- A server that is added, revived or edited keeps the state well formed.
-use Rattle.std.proofs.Common.{◌≡◌, ◌==◌, ℕ, ◌+◌, Bool, true, false, cond, not, ◌&&◌, ◌||◌, List, [], ◌∷◌, ◌++◌, Option, Some, None, refl, sym, ap, subst, ◌∙◌, map}
-use Rattle.std.proofs.lemmas.Bool.{and_parts, eqb-true, false_from_ne_true, both_ways}
-use Rattle.std.specs.List.{AllByRecursion, IsDistinct, find, filter, list_any}
+use Rattle.std.proofs.Common.{◌≡◌, ◌==◌, ℕ, ◌+◌, Bool, true, false, not, ◌&&◌, List, [], ◌∷◌, ◌++◌, Option, Some, None, refl, sym, ap, subst, ◌∙◌}
+use Rattle.std.proofs.lemmas.Bool.{and_parts, eqb-true, not-true}
+use Rattle.std.specs.List.{AllByRecursion, find, list_any}
 use Rattle.lvs_types.specs.declared.addr.Addr.{Addr}
 use Rattle.lvs_types.specs.declared.addr.DestId.{DestId}
 use Rattle.lvs_types.specs.declared.service.ServiceKey.{ServiceKey}
-use Rattle.lvs_types.specs.declared.service.Service.{Service}
 use Rattle.lvs_types.specs.declared.dest.Dest.{Dest}
 use Rattle.lvs_types.specs.declared.dest.DestSpec.{DestSpec}
 use Rattle.lvs_types.specs.declared.entry.Entry.{Entry}
 use Rattle.lvs_types.specs.declared.template.Template.{Template}
 use Rattle.lvs_model.specs.State.{State}
-use Rattle.lvs_model.specs.Same.{addr_eq, service_key_eq, dest_id_eq}
-use Rattle.lvs_model.specs.Lists.{update_first, without}
+use Rattle.lvs_model.specs.Same.{addr_eq, service_key_eq}
+use Rattle.lvs_model.specs.Lists.{update_first}
 use Rattle.lvs_model.specs.Lookups.{dest_at, has_dest_id, has_service_key, is_server_of, stands_at, is_server_at}
 use Rattle.lvs_model.specs.Edits.{is_service, is_server, has_bad_thresholds, is_revivable, new_dest, revived, place_server, add_server_by, respecified, edit_server_by}
-use Rattle.lvs_model.specs.WellFormed.{HasService, HasCursor, HasGoodThresholds, IsLastOf, is_live_server, place_eq, place_of, Place, dest_ids}
-use Rattle.lvs_well_formed.proofs.Lists.{all_weaker, all_both, all_true, all_passing, all_push, all_filter, all_find, all_unmap, find_none, find_passes, any_none}
-use Rattle.lvs_well_formed.proofs.Distinct.{distinct_push, distinct_filter}
-use Rattle.lvs_well_formed.proofs.Finds.{find_push, find_filter, find_last}
-use Rattle.lvs_well_formed.proofs.Keys.{addr_true, addr_same, service_key_true, service_key_same, dest_id_true, nat_same}
+use Rattle.lvs_model.specs.WellFormed.{HasService, HasCursor, HasGoodThresholds, IsLastOf, is_live_server, place_eq, place_of, Place}
+use Rattle.lvs_well_formed.proofs.Lists.{all_weaker, all_both, all_true, all_push, all_find, find_none, find_passes, any_none}
+use Rattle.lvs_well_formed.proofs.Distinct.{distinct_push}
+use Rattle.lvs_well_formed.proofs.Finds.{find_push}
+use Rattle.lvs_well_formed.proofs.Keys.{addr_true, service_key_true, service_key_same}
 use Rattle.lvs_well_formed.proofs.Ids.{goes_push}
-use Rattle.lvs_well_formed.proofs.Parts.{Parts, After, ids_stay, stays, then_after}
-use Rattle.lvs_well_formed.proofs.Alike.{Stays, StaysNamed, IsAlike, stays_from, all_named, entries_stay, templates_stay, update_alike}
+use Rattle.lvs_well_formed.proofs.Parts.{Parts, After, ids_stay, stays}
+use Rattle.lvs_well_formed.proofs.Alike.{Stays, StaysNamed, found_stays, stays_from, all_named, entries_stay, templates_stay, update_alike}
 use Rattle.lvs_well_formed.proofs.AlikeStates.{with_alike}
 use Rattle.lvs_well_formed.proofs.Entries.{dests_found}
 use Rattle.lvs_well_formed.proofs.Revivals.{moved_after}
 
 -- A NEW SERVER
 
-found_stays : (d : Dest) (o : Option Dest) → o ≡ Some d → Stays (Some d) o
-found_stays d None is = absurd cc
-found_stays d (Some other) is = let same : other ≡ d = cc in ap place_of same
-
 pushed_stays : (ds : List Dest) (new : Dest) (id : DestId) → Stays (dest_at id ds) (dest_at id (ds ++ new ∷ []))
-pushed_stays ds new id = stays_from (dest_at id ds) (dest_at id (ds ++ new ∷ [])) (λ d is. found_stays d (dest_at id (ds ++ new ∷ [])) (find_push (has_dest_id id) ds d new is))
+pushed_stays ds new id = stays_from (dest_at id ds) (dest_at id (ds ++ new ∷ [])) (λ d is. found_stays d d (dest_at id (ds ++ new ∷ [])) (find_push (has_dest_id id) ds d new is) refl)
 
 live_pushed : (key : ServiceKey) (ds : List Dest) (new : Dest) (id : DestId) (o : Option Dest) → dest_at id ds ≡ o → is_live_server key o ≡ true → is_live_server key (dest_at id (ds ++ new ∷ [])) ≡ true
 live_pushed key ds new id None is live = absurd cc
@@ -85,10 +80,6 @@ new_place s key spec live trashed =
     (λ d first second. no_place d.live (service_key_eq d.service key) (addr_eq d.spec.addr spec.addr) (d.spec.port == spec.port) first second)
     (any_none (is_server_at key spec.addr spec.port) s.dests live) (find_none (is_revivable key spec) s.dests trashed)
 
-not_true_false : (b : Bool) → not b ≡ true → b ≡ false
-not_true_false true is = absurd cc
-not_true_false false is = refl
-
 -- AN EDITED SERVER
 
 place_true : (key : ServiceKey) (spec : DestSpec) (d : Dest) → service_key_eq d.service key ≡ true → stands_at spec.addr spec.port d ≡ true → place_of d ≡ record { service = key; addr = spec.addr; port = spec.port }
@@ -111,12 +102,12 @@ edit_server_after s key spec true true true is p = stays s p
 edit_server_after s key spec true true false is p =
     with_alike s (update_first (is_server_at key spec.addr spec.port) (respecified s.entries spec) s.dests)
     (update_alike (is_server_at key spec.addr spec.port) (respecified s.entries spec) s.dests
-      (λ d here. record {
-        id = refl;
-        place = same_place spec d (and_parts (is_server_of key d) (stands_at spec.addr spec.port d) here).1;
-        live = refl;
-        thresholds = λ _. is;
-      })) p
+    (λ d here. record {
+      id = refl;
+      place = same_place spec d (and_parts (is_server_of key d) (stands_at spec.addr spec.port d) here).1;
+      live = refl;
+      thresholds = λ _. is;
+    })) p
 
 -- AN ADDED SERVER
 
@@ -128,7 +119,7 @@ place_after s key spec (Some d) is known live good p =
     let test = find_passes (is_revivable key spec) s.dests d is in
     let stands = and_parts (not d.live && service_key_eq d.service key) (stands_at spec.addr spec.port d) test in
     let trashed = and_parts (not d.live) (service_key_eq d.service key) stands.0 in
-    moved_after s (revived s.entries spec d) d (all_find (λ (x : Dest). dest_at x.id s.dests ≡ Some x) (is_revivable key spec) s.dests d (dests_found s p) is) (same_place spec d stands.1) (not_true_false d.live trashed.0)
+    moved_after s (revived s.entries spec d) d (all_find (λ (x : Dest). dest_at x.id s.dests ≡ Some x) (is_revivable key spec) s.dests d (dests_found s p) is) (same_place spec d stands.1) (not-true d.live trashed.0)
     (λ _. subst (λ k. list_any (has_service_key k) s.services ≡ true) (sym (service_key_true d.service key trashed.1)) known) good p
 
 pub add_server_after : (s : State) (key : ServiceKey) (spec : DestSpec) (a b c : Bool) → is_service s key ≡ a → is_server s key spec.addr spec.port ≡ b → has_bad_thresholds spec ≡ c → Parts s → After s (add_server_by s key spec a b c).1

@@ -1,9 +1,8 @@
 -- A director begins well formed, and every step and every run keeps it so.
-use Rattle.std.proofs.Common.{◌≡◌, ℕ, List, [], ◌∷◌, Option, Some, None, refl, lit≤, nat_eq}
+use Rattle.std.proofs.Common.{ℕ, List, [], ◌∷◌, refl, lit≤, nat_eq}
 use Rattle.lvs_types.specs.declared.addr.Addr.{Addr}
 use Rattle.lvs_types.specs.declared.item.Item.{Item}
 use Rattle.lvs_types.specs.declared.item.Item.TheVariants as item
-use Rattle.lvs_types.specs.declared.settings.Daemons.{Daemons}
 use Rattle.lvs_model.specs.State.{State, initial}
 use Rattle.lvs_model.specs.Same.{key_eq, service_key_eq, template_key_eq}
 use Rattle.lvs_model.specs.Reading.{read}

@@ -1,22 +1,22 @@
 -- Templates that change, leave or are added keep the state well formed.
-use Rattle.std.proofs.Common.{◌≡◌, ◌==◌, ◌<◌, ◌+◌, ℕ, Bool, true, false, cond, not, ◌&&◌, ◌||◌, List, [], ◌∷◌, ◌++◌, Option, Some, None, refl, sym, ap, subst, map, is_some, is_none, ◌∙◌, nat_eq, arith}
-use Rattle.std.specs.List.{AllByRecursion, IsDistinct, find, filter, filter_map}
+use Rattle.std.proofs.Common.{◌≡◌, ◌+◌, ℕ, Bool, false, not, List, [], ◌∷◌, ◌++◌, Option, Some, None, sym, ap, subst, nat_eq, arith}
+use Rattle.std.proofs.lemmas.Bool.{not-true}
+use Rattle.std.specs.List.{IsDistinct, find, filter, filter_map}
 use Rattle.lvs_types.specs.declared.addr.TemplateId.{TemplateId}
 use Rattle.lvs_types.specs.declared.dest.Dest.{Dest}
 use Rattle.lvs_types.specs.declared.entry.Entry.{Entry}
-use Rattle.lvs_types.specs.declared.template.TemplateKey.{TemplateKey}
 use Rattle.lvs_types.specs.declared.template.Template.{Template}
 use Rattle.lvs_model.specs.State.{State}
 use Rattle.lvs_model.specs.Same.{template_key_eq}
-use Rattle.lvs_model.specs.Lists.{update_first, without}
-use Rattle.lvs_model.specs.Lookups.{has_template_id, has_template_key, template_at}
+use Rattle.lvs_model.specs.Lists.{without}
+use Rattle.lvs_model.specs.Lookups.{has_template_id, has_template_key}
 use Rattle.lvs_model.specs.Binding.{put_template}
-use Rattle.lvs_model.specs.WellFormed.{AreDrawn, IsDrawn, IsThere, IsOlder, HoldsOlder, TemplateHasServer, template_ids, template_keys}
-use Rattle.lvs_well_formed.proofs.Lists.{all_weaker, all_true, all_passing, all_filter, all_push, all_find, all_update, all_unmap, all_filter_map}
+use Rattle.lvs_model.specs.WellFormed.{AreDrawn, IsDrawn, IsThere, IsOlder, TemplateHasServer, template_ids}
+use Rattle.lvs_well_formed.proofs.Lists.{all_weaker, all_filtered, all_filter, all_push, all_find, all_update, all_unmap, all_filter_map}
 use Rattle.lvs_well_formed.proofs.Distinct.{keys_put, distinct_filter, distinct_push, distinct_filter_map, each_found}
 use Rattle.lvs_well_formed.proofs.Ids.{GoesOn, goes_equal, goes_filter, goes_filter_map, goes_push, goes_then}
 use Rattle.lvs_well_formed.proofs.Keys.{nat_same}
-use Rattle.lvs_well_formed.proofs.Parts.{IsSound, AreEntries, AreTemplates, Parts, After, ids_stay}
+use Rattle.lvs_well_formed.proofs.Parts.{IsSound, Parts, After, ids_stay}
 
 -- the template is in the list
 abbrev pub IsTemplateOf : State → Template → Type 0
@@ -63,10 +63,6 @@ older_more next (Some id) older = omega (arith, older)
 sound_more : (next : ℕ) (ds : List Dest) (e : Entry) → IsSound next ds e → IsSound (next + 1) ds e
 sound_more next ds e sound = record { server = sound.server; goes = sound.goes; template = older_more next e.template sound.template; state = sound.state }
 
-not_false : (b : Bool) → not b ≡ true → b ≡ false
-not_false true is = absurd cc
-not_false false is = refl
-
 -- the template of the key leaves, and another stands last
 pub with_template_added : (s : State) (t : Template) → t.id.0 ≡ s.next_template → TemplateHasServer s.dests t → Parts s
     → After s (record s { templates = without (has_template_key t.key) s.templates ++ t ∷ []; next_template = s.next_template + 1 })
@@ -74,9 +70,9 @@ with_template_added s t id there p =
     let test : Template → Bool = λ u. not (has_template_key t.key u) in
     let rest = filter test s.templates in
     let goes : GoesOn s.next_template (template_ids s.templates) (s.next_template + 1) (template_ids (rest ++ t ∷ [])) =
-        goes_then s.next_template s.next_template (s.next_template + 1) (template_ids s.templates) (template_ids rest) (template_ids (rest ++ t ∷ []))
-        (goes_filter s.next_template (λ (u : Template). u.id.0) test s.templates p.templates.ids)
-        (λ drawn. goes_push s.next_template (λ (u : Template). u.id.0) rest t id drawn) in
+    goes_then s.next_template s.next_template (s.next_template + 1) (template_ids s.templates) (template_ids rest) (template_ids (rest ++ t ∷ []))
+    (goes_filter s.next_template (λ (u : Template). u.id.0) test s.templates p.templates.ids)
+    (λ drawn. goes_push s.next_template (λ (u : Template). u.id.0) rest t id drawn) in
     record {
       parts = record {
         services = p.services;
@@ -89,8 +85,8 @@ with_template_added s t id there p =
         templates = record {
           ids = goes.drawn;
           keys = distinct_push template_key_eq (λ (u : Template). u.key) rest t
-            (all_passing (λ (u : Template). Unit {0}) (λ (u : Template). template_key_eq u.key t.key ≡ false) test s.templates (λ u differs _. not_false (template_key_eq u.key t.key) differs) (all_true (λ (u : Template). Unit {0}) s.templates (λ u. tt)))
-            (distinct_filter template_key_eq (λ (u : Template). u.key) test s.templates p.templates.keys);
+              (all_filtered (λ (u : Template). template_key_eq u.key t.key ≡ false) test s.templates (λ u differs. not-true (template_key_eq u.key t.key) differs))
+              (distinct_filter template_key_eq (λ (u : Template). u.key) test s.templates p.templates.keys);
           servers = all_push (TemplateHasServer s.dests) rest t (all_filter (TemplateHasServer s.dests) test s.templates p.templates.servers) there;
         };
         pending = p.pending;

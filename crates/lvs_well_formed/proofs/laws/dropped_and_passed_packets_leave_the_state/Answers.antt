@@ -1,4 +1,4 @@
-use Rattle.std.proofs.Common.{◌≡◌, ◌∙◌, ap}
+use Rattle.std.proofs.Common.{◌∙◌, ap}
 use Rattle.lvs_well_formed.specs.Passing.{passed}
 use Rattle.lvs_well_formed.proofs.PacketLeaves.{incoming_leaves, outgoing_leaves}
 use Rattle.lvs_well_formed.proofs.laws.dropped_and_passed_packets_leave_the_state.Goals as goal
