@@ -1,17 +1,11 @@
 -- A value past a limit stays past it.
-use Rattle.std.proofs.Common.{◌≡◌, ℕ, ◌+◌, ◌*◌, ◌-◌, ◌<◌, ◌≤◌, cond, List, [], ◌∷◌, Option, Some, None, arith, nat_le}
+use Rattle.std.proofs.Common.{◌≡◌, ℕ, ◌+◌, ◌*◌, ◌-◌, ◌≤◌, cond, List, [], ◌∷◌, Option, Some, None, arith, nat_le}
 use Rattle.std.proofs.lemmas.Bool.Decides.{nat_tests}
 use Rattle.lvs_model.specs.Decimals.{value_after}
 
-pub value_after_ge : (n : ℕ) (text : List ℕ) → n ≤ value_after n text
+value_after_ge : (n : ℕ) (text : List ℕ) → n ≤ value_after n text
 value_after_ge n [] = omega arith
 value_after_ge n (c ∷ cs) = omega (arith, value_after_ge (10 * n + (c - 48)) cs)
-
-pub past_limit : (limit n : ℕ) (rest text : List ℕ) → limit < n → value_after n rest ≡ value_after 0 text → None ≡ cond (nat_le (value_after 0 text) limit) (Some (value_after 0 text)) None
-past_limit limit n rest text past is =
-    let more = value_after_ge n rest in
-    let over : limit < value_after 0 text = omega arith in
-    grind (arith, nat_tests)
 
 abbrev within : ℕ → ℕ → Option ℕ
 within limit n = cond (nat_le n limit) (Some n) None

@@ -16,7 +16,7 @@ pub onto_onto : (first second : List ReportLine) (rest : Answer) → onto (first
 onto_onto first second (Ok lines) = ap Ok (append_assoc first second lines)
 onto_onto first second (Err number) = refl
 
-more_pieces : (number : ℕ) (listing : Option ShownText) (text : List ℕ) (pieces : List (List ℕ)) → 0 < length pieces → lines_from number listing (text ∷ pieces) ≡ read_then number (line_read listing text) (λ (later : Option ShownText). lines_from (number + 1) later pieces)
+pub more_pieces : (number : ℕ) (listing : Option ShownText) (text : List ℕ) (pieces : List (List ℕ)) → 0 < length pieces → lines_from number listing (text ∷ pieces) ≡ read_then number (line_read listing text) (λ (later : Option ShownText). lines_from (number + 1) later pieces)
 more_pieces number listing text [] some = absurd (omega arith)
 more_pieces number listing text (next ∷ more) some = refl
 

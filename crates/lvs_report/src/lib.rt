@@ -3,6 +3,7 @@
 
 mod act;
 mod cutting;
+pub mod laws;
 mod line;
 mod listing;
 mod names;
