@@ -26,7 +26,7 @@ use Rattle.lvs_model.specs.Report.{addr_text, method_text, malformed_text, drop_
 abbrev pub avoids : ℕ → List ℕ → Bool
 avoids byte text = list_all (λ (b : ℕ). not (b == byte)) text
 
-and_true : (a b : Bool) → a ≡ true → b ≡ true → (a && b) ≡ true
+pub and_true : (a b : Bool) → a ≡ true → b ≡ true → (a && b) ≡ true
 and_true true b first second = second
 and_true false b first second = first
 
