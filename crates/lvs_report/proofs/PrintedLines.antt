@@ -1,15 +1,14 @@
 -- The lines of heads and acts are read as what they were printed of.
-use Rattle.std.proofs.Common.{◌≡◌, ℕ, ◌+◌, ◌<◌, ◌≤◌, ◌^◌, Bool, true, false, not, ◌==◌, cond, List, [], ◌∷◌, ◌++◌, length, take, drop, Option, Some, None, refl, sym, ◌∙◌, ap, arith, lit<, decimal, nat_lt, codes, suc, append_assoc}
+use Rattle.std.proofs.Common.{◌≡◌, ℕ, ◌+◌, ◌<◌, ◌≤◌, ◌^◌, Bool, true, false, not, ◌==◌, cond, List, [], ◌∷◌, ◌++◌, length, take, drop, Option, Some, None, refl, ◌∙◌, ap, arith, lit<, decimal, nat_lt, codes, suc}
 use Rattle.std.specs.List.{list_all, position_or_len}
 use Rattle.std.specs.Char.{is_ascii_digit}
 use Rattle.std.proofs.Math.Seq.{take-append_seam, drop-append-add}
 use Rattle.std.proofs.lemmas.List.{length-append}
 use Rattle.std.proofs.lemmas.Bool.Decides.{nat_tests}
 use Rattle.std.proofs.lemmas.Fmt.{decimal_nonempty}
-use Rattle.lvs_types.specs.declared.report.ReportLine.{ReportLine}
 use Rattle.lvs_types.specs.declared.report.ReportLine.TheVariants as line
 use Rattle.lvs_model.specs.Decimals.{cut_at}
-use Rattle.lvs_model.specs.ReportReading.{plain_number, number_up_to, behind, filled, head_of, act_of, line_of, greatest_long, greatest_int}
+use Rattle.lvs_model.specs.ReportReading.{number_up_to, behind, filled, head_of, act_of, line_of, greatest_long, greatest_int}
 use Rattle.lvs_report.proofs.Avoids.{avoids, decimal_avoids, first_of_and, rest_of_and}
 use Rattle.lvs_report.proofs.Numerals.{are_digits, plain_decimal}
 

@@ -1,5 +1,5 @@
 -- The report of a round is read as its lines.
-use Rattle.std.proofs.Common.{◌≡◌, ℕ, ◌+◌, ◌<◌, ◌≤◌, ◌^◌, Bool, true, false, not, ◌&&◌, ◌==◌, cond, List, [], ◌∷◌, ◌++◌, length, map, Option, Some, None, Result, Ok, Err, refl, sym, ◌∙◌, ap, arith, lit<, decimal, codes, append_assoc, append-nil, suc}
+use Rattle.std.proofs.Common.{◌≡◌, ℕ, ◌+◌, ◌<◌, ◌^◌, Bool, true, false, not, ◌==◌, cond, List, [], ◌∷◌, ◌++◌, length, map, Option, Some, None, Result, Ok, refl, sym, ◌∙◌, ap, arith, lit<, decimal, codes, append_assoc, append-nil}
 use Rattle.std.specs.List.{list_all, slice_split, onto_first, join_with_byte, AllByRecursion}
 use Rattle.std.proofs.lemmas.List.Splits.{length-slice_split, join_with_byte-slice_split}
 use Rattle.lvs_types.specs.declared.book.Noted.{Noted}
@@ -11,9 +11,9 @@ use Rattle.lvs_types.specs.declared.report.ReportLine.{ReportLine}
 use Rattle.lvs_types.specs.declared.report.ReportLine.TheVariants as line
 use Rattle.lvs_model.specs.Lines.{is_feed}
 use Rattle.lvs_model.specs.Report.{is_printed, reply_text, act_line, act_text, acts_text, shown_name, shown_text, listings_text, head_text, round_text}
-use Rattle.lvs_model.specs.ReportReading.{LineRead, begun, continued, is_end, line_of, line_read, onto, read_then, lines_from, report_of}
+use Rattle.lvs_model.specs.ReportReading.{LineRead, begun, is_end, line_read, onto, read_then, lines_from, report_of}
 use Rattle.lvs_model.specs.ReportLines.{act_lines, report_lines, are_lines, is_table, is_read_again, IsActInRange, IsReadAgain}
-use Rattle.lvs_report.proofs.Avoids.{avoids, both, all_avoid, glue, decimal_avoids, reply_avoids, reply_filled, and_true, first_of_and, rest_of_and}
+use Rattle.lvs_report.proofs.Avoids.{avoids, both, glue, decimal_avoids, reply_avoids, reply_filled, and_true, first_of_and, rest_of_and}
 use Rattle.lvs_report.proofs.PrintedLines.{head_line, head_line_own, act_body, act_line_own}
 use Rattle.lvs_report.proofs.Reading.{more_pieces}
 

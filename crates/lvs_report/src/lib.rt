@@ -21,4 +21,6 @@ pub use report::read_report;
 pub use round::print_round;
 
 #[cfg(test)]
+mod reading_tests;
+#[cfg(test)]
 mod tests;

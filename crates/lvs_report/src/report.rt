@@ -10,11 +10,7 @@ use lvs_types::ReportLine;
 use std::alloc::Global;
 
 /// The line of that number.
-fn take_numbered(
-    reader: &mut ReportReader,
-    number: u64,
-    line: &[u8],
-) -> Result<(), ReportRefused>
+fn take_numbered(reader: &mut ReportReader, number: u64, line: &[u8]) -> Result<(), ReportRefused>
     ensures ok { OnOk result (with_line reader.old line.now ≡ Some reader.new) }
     ensures refused { (at : ℕ) → result ≡ Err (ReportRefused.Unreadable at) → (at ≡ number) × (line_read reader.old.open_listing line.now ≡ None) }
 {

@@ -1,4 +1,4 @@
-use Rattle.std.proofs.Common.{◌≡◌, ◌+◌, ◌<◌, length, Err, arith, rules}
+use Rattle.std.proofs.Common.{◌≡◌, ◌<◌, length, Err, arith, rules}
 use Rattle.lvs_model.specs.ReportReading.{report_of}
 use Rattle.lvs_report.specs.declared.refused.ReportRefused.TheVariants as refusal
 use Rattle.lvs_report.proofs.Reading.{lines_step, lines_stop, lines_end}
