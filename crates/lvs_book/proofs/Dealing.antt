@@ -1,8 +1,7 @@
 -- Passes that are dealt out one by one.
 use Rattle.std.proofs.Common.{◌≡◌, ℕ, zero, suc, ◌+◌, ◌-◌, ◌<◌, [], ◌∷◌, ◌++◌, ap, ◌∙◌, arith}
 use Rattle.atomic_table.specs.Seated.{TableId}
-use Rattle.lvs_book.specs.Rule.{fresh}
-use Rattle.lvs_book.specs.Steps.{first_lane, other_lanes}
+use Rattle.lvs_book.specs.Lanes.{new_lanes, first_lane, other_lanes}
 use Rattle.lvs_book.specs.Passes.{opened}
 
 module _ {O A : Type 0} (z : TableId) (o : O) where
@@ -14,9 +13,9 @@ module _ {O A : Type 0} (z : TableId) (o : O) where
   opened_next i j e = let up : j ≡ suc i = omega arith in let back : 0 + i ≡ i = omega arith in ap (opened {A = A} z o 0) up ∙ opened_more 0 i ∙ ap (λ n. opened {A = A} z o 0 i ++ record { book = z; lane = n; origin = o; acts = [] } ∷ []) back
 
   -- what is still to be dealt, once i passes of n are
-  pub cut_fresh : (i n : ℕ) → i < n → (first_lane (fresh {A = A} o i (n - i)) ≡ record { number = i; origin = o; acts = [] } ∷ []) × (other_lanes (fresh {A = A} o i (n - i)) ≡ fresh o (i + 1) (n - (i + 1)))
-  cut_fresh i n more = let e : n - i ≡ suc (n - (i + 1)) = omega arith in let up : suc i ≡ i + 1 = omega arith in
-      (ap (λ m. first_lane (fresh {A = A} o i m)) e, ap (λ m. other_lanes (fresh {A = A} o i m)) e ∙ ap (λ k. fresh {A = A} o k (n - (i + 1))) up)
+  pub cut_new : (i n : ℕ) → i < n → (first_lane (new_lanes {A = A} o i (n - i)) ≡ record { number = i; origin = o; acts = [] } ∷ []) × (other_lanes (new_lanes {A = A} o i (n - i)) ≡ new_lanes o (i + 1) (n - (i + 1)))
+  cut_new i n more = let e : n - i ≡ suc (n - (i + 1)) = omega arith in let up : suc i ≡ i + 1 = omega arith in
+      (ap (λ m. first_lane (new_lanes {A = A} o i m)) e, ap (λ m. other_lanes (new_lanes {A = A} o i m)) e ∙ ap (λ k. new_lanes {A = A} o k (n - (i + 1))) up)
 
-  pub last_fresh : (i n : ℕ) → i + 1 ≡ n → fresh {A = A} o i (n - i) ≡ record { number = i; origin = o; acts = [] } ∷ []
-  last_fresh i n end = let e : n - i ≡ suc zero = omega arith in ap (fresh {A = A} o i) e
+  pub last_new : (i n : ℕ) → i + 1 ≡ n → new_lanes {A = A} o i (n - i) ≡ record { number = i; origin = o; acts = [] } ∷ []
+  last_new i n end = let e : n - i ≡ suc zero = omega arith in ap (new_lanes {A = A} o i) e

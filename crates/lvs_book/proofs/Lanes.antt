@@ -3,8 +3,8 @@ use Rattle.std.proofs.Common.{◌≡◌, ℕ, zero, suc, ◌+◌, ◌<◌, ◌�
 use mathlib.Core.Bool.{Bool, true, false, ◌||◌}
 use Rattle.std.specs.Prelude.{filter}
 use Rattle.lvs_book.proofs.Sums.{one_if_eq, between_none, between_first}
-use Rattle.lvs_book.specs.Steps.{first_lane, other_lanes}
-use Rattle.lvs_book.specs.Rule.{stands, times, between, numbers, grown, fresh, Of, Starts, Own, Within}
+use Rattle.lvs_book.specs.Lanes.{stands, times, numbers, grown, new_lanes, AllFrom, FirstFrom, Own, Within, first_lane, other_lanes}
+use Rattle.lvs_book.specs.Sums.{between}
 use Rattle.lvs_book.specs.declared.view.Lane.{Lane}
 
 pub times_one : (k : ℕ) (xs : List ℕ) → 0 < times k xs → stands k xs ≡ true
@@ -76,9 +76,9 @@ module _ {O A : Type 0} (names : A → List ℕ) where
   own_append log [] ms own more = more
   own_append log (x ∷ xs) ms own more = (own.0, own_append log xs ms own.1 more)
 
-  pub own_fresh : (o : O) (k m : ℕ) → Own names [] (fresh o k m)
-  own_fresh o k zero = tt
-  own_fresh o k (suc m) = (refl, own_fresh o (suc k) m)
+  pub own_new : (o : O) (k m : ℕ) → Own names [] (new_lanes o k m)
+  own_new o k zero = tt
+  own_new o k (suc m) = (refl, own_new o (suc k) m)
 
 module _ {O A : Type 0} where
   pub cut_times : (k : ℕ) (ls : List (Lane O A)) → times k (numbers (first_lane ls)) + times k (numbers (other_lanes ls)) ≡ times k (numbers ls)
@@ -98,41 +98,41 @@ module _ {O A : Type 0} where
   times_le_length k (x ∷ xs) = grind (arith, times_le_length k xs)
 
 module _ {O A : Type 0} where
-  pub of_first : (o : O) (ls : List (Lane O A)) → Of o ls → Of o (first_lane ls)
+  pub of_first : (o : O) (ls : List (Lane O A)) → AllFrom o ls → AllFrom o (first_lane ls)
   of_first o [] h = tt
   of_first o (x ∷ xs) h = (h.0, tt)
 
-  pub of_rest : (o : O) (ls : List (Lane O A)) → Of o ls → Of o (other_lanes ls)
+  pub of_rest : (o : O) (ls : List (Lane O A)) → AllFrom o ls → AllFrom o (other_lanes ls)
   of_rest o [] h = tt
   of_rest o (x ∷ xs) h = h.1
 
-  pub of_append : (o : O) (ls ms : List (Lane O A)) → Of o ls → Of o ms → Of o (ls ++ ms)
+  pub of_append : (o : O) (ls ms : List (Lane O A)) → AllFrom o ls → AllFrom o ms → AllFrom o (ls ++ ms)
   of_append o [] ms h more = more
   of_append o (x ∷ xs) ms h more = (h.0, of_append o xs ms h.1 more)
 
-  pub of_grown : (o : O) (a : A) (ls : List (Lane O A)) → Of o ls → Of o (grown a ls)
+  pub of_grown : (o : O) (a : A) (ls : List (Lane O A)) → AllFrom o ls → AllFrom o (grown a ls)
   of_grown o a [] h = tt
   of_grown o a (x ∷ xs) h = (h.0, of_grown o a xs h.1)
 
-  pub of_starts : (o o' : O) (ls : List (Lane O A)) → Starts o' ls → Of o ls → o ≡ o'
-  of_starts o o' [] start h = absurd start
-  of_starts o o' (x ∷ xs) start h = sym h.0 ∙ start
+  pub of_first_from : (o o' : O) (ls : List (Lane O A)) → FirstFrom o' ls → AllFrom o ls → o ≡ o'
+  of_first_from o o' [] start h = absurd start
+  of_first_from o o' (x ∷ xs) start h = sym h.0 ∙ start
 
-  pub of_one : (o o' : O) (ls : List (Lane O A)) → 0 < length ls → Of o ls → Of o' ls → o ≡ o'
+  pub of_one : (o o' : O) (ls : List (Lane O A)) → 0 < length ls → AllFrom o ls → AllFrom o' ls → o ≡ o'
   of_one o o' [] some_lane h h' = absurd (omega arith)
   of_one o o' (x ∷ xs) some_lane h h' = sym h.0 ∙ h'.0
 
 module _ {O : Type 0} (A : Type 0) (o : O) where
-  pub fresh_times : (k m i : ℕ) → times i (numbers (fresh {A = A} o k m)) ≡ between k (k + m) i
-  fresh_times k zero i = sym (ap (λ (z : ℕ). between k z i) (let e : k + 0 ≡ k = omega arith in e) ∙ between_none k i)
-  fresh_times k (suc m) i = let e : suc k + m ≡ k + suc m = omega arith in let f = fresh_times (suc k) m i in
-      let g : times i (numbers (fresh {A = A} o (suc k) m)) ≡ between (suc k) (k + suc m) i = f ∙ ap (λ (z : ℕ). between (suc k) z i) e in
+  pub new_times : (k m i : ℕ) → times i (numbers (new_lanes {A = A} o k m)) ≡ between k (k + m) i
+  new_times k zero i = sym (ap (λ (z : ℕ). between k z i) (let e : k + 0 ≡ k = omega arith in e) ∙ between_none k i)
+  new_times k (suc m) i = let e : suc k + m ≡ k + suc m = omega arith in let f = new_times (suc k) m i in
+      let g : times i (numbers (new_lanes {A = A} o (suc k) m)) ≡ between (suc k) (k + suc m) i = f ∙ ap (λ (z : ℕ). between (suc k) z i) e in
       let b = between_first k (k + suc m) i (omega arith) in omega arith
 
-  pub fresh_length : (k m : ℕ) → length (fresh {A = A} o k m) ≡ m
-  fresh_length k zero = refl
-  fresh_length k (suc m) = ap suc (fresh_length (suc k) m)
+  pub new_length : (k m : ℕ) → length (new_lanes {A = A} o k m) ≡ m
+  new_length k zero = refl
+  new_length k (suc m) = ap suc (new_length (suc k) m)
 
-  pub of_fresh : (k m : ℕ) → Of {A = A} o (fresh o k m)
-  of_fresh k zero = tt
-  of_fresh k (suc m) = (refl, of_fresh (suc k) m)
+  pub of_new : (k m : ℕ) → AllFrom {A = A} o (new_lanes o k m)
+  of_new k zero = tt
+  of_new k (suc m) = (refl, of_new (suc k) m)

@@ -2,7 +2,7 @@
 use Rattle.std.proofs.Common.{◌≡◌, ◌≢◌, ℕ, zero, suc, ◌+◌, ◌<◌, ◌≤◌, eqb, List, [], ◌∷◌, ◌++◌, set, refl, sym, ap, subst, arith}
 use mathlib.Core.Option.{some, some-injective, some-ne-none}
 use lib.ListN.{get_elem?}
-use Rattle.lvs_book.specs.Rule.{total, one_if, between}
+use Rattle.lvs_book.specs.Sums.{total, one_if, between}
 
 module _ {V : Type 0} where
   pub total_set : (f : V → ℕ) (l : List V) (i : ℕ) (a b : V) → get_elem? l i ≡ some a → total f (set l i b) + f a ≡ total f l + f b

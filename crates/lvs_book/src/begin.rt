@@ -1,6 +1,6 @@
-//! How a book begins and ends.
+//! How a book begins: its value goes into the slot, and each lane gets its pass.
 ghost use Rattle.std.specs.Prelude.{◌≡◌, ◌<◌, ◌≤◌, ◌∷◌, [], length, IfOk, IfErr, vec_len, vec_capacity};
-ghost use Rattle.lvs_book.specs.Rule.{fresh};
+ghost use Rattle.lvs_book.specs.Lanes.{new_lanes};
 ghost use Rattle.lvs_book.specs.Steps.{at_rest};
 ghost use Rattle.lvs_book.specs.Passes.{opened};
 
@@ -15,10 +15,10 @@ use std::mem;
 use std::snapshot::Snapshot;
 
 impl<T: Journal> Turnstile<T> {
-    // A pass for each lane, in order.
+    // Cuts the first seat into a pass for each lane, in order.
     fn deal(&self, mut seat: BookSeat<T>, count: u32, passes: &mut Vec<Pass<T>>)
         requires book { seat.table_id ≡ self.now.table.shared.table_id }
-        requires lanes { (0 < count) × (seat.me ≡ (at_rest (fresh (T.origin self.now.table.shared.key.opened.value) 0 count), [])) }
+        requires lanes { (0 < count) × (seat.me ≡ (at_rest (new_lanes (T.origin self.now.table.shared.key.opened.value) 0 count), [])) }
         requires room { (passes.old.items ≡ []) × (vec_len passes.old ≡ 0) × (count ≤ vec_capacity passes.old) }
         ensures { passes.new.items ≡ opened seat.table_id (T.origin self.now.table.shared.key.opened.value) 0 count }
     {
@@ -34,7 +34,8 @@ impl<T: Journal> Turnstile<T> {
         });
     }
 
-    /// The passes stand in the order of their lanes, from 0, and have no acts.
+    /// The passes stand in the order of their lanes, from 0, and have no acts. All memory is taken before
+    /// the first of them is made.
     pub(crate) fn begin(
         alloc: Global,
         value: T,
@@ -58,9 +59,9 @@ impl<T: Journal> Turnstile<T> {
         slots.push_reserved(value);
         match Table::new(alloc, &[0, 0, 0], slots, &terms) {
             Ok((table, seat)) => {
-                let book = Turnstile { table };
-                book.deal(seat, passes, &mut given);
-                Ok((book, given))
+                let turnstile = Turnstile { table };
+                turnstile.deal(seat, passes, &mut given);
+                Ok((turnstile, given))
             }
             Err(refused) => {
                 let mut slots = refused.slots;

@@ -1,7 +1,7 @@
-//! The book as callers see it.
-ghost use Rattle.std.specs.Prelude.{◌≡◌, ℕ, ◌<◌, ◌++◌, ◌∷◌, [], IsOk, IfOk, IfErr, vec_len};
-ghost use Rattle.lvs_book.specs.Rule.{stands, Within};
-ghost use Rattle.lvs_book.specs.Passes.{opened, AreAll, Tells};
+//! The book as its users see it.
+ghost use Rattle.std.specs.Prelude.{◌≡◌, ◌≢◌, ℕ, ◌<◌, ◌∷◌, [], IsOk, IfOk, IfErr};
+ghost use Rattle.lvs_book.specs.Lanes.{stands, Within};
+ghost use Rattle.lvs_book.specs.Passes.{opened, with_act, AreAll, Tells};
 
 use crate::journal::{Journal, Work};
 use crate::pass::Pass;
@@ -11,7 +11,9 @@ use std::alloc::Global;
 use std::marker::Model;
 use std::sync::Wait;
 
-/// A value that only the holder of a turn changes. Contracts see the book's identity, how many lanes it has, and its origin.
+/// A value that only the holder of a turn changes, with its counted history. Threads share it by `&`.
+///
+/// Contracts see its identity, how many lanes it has, and its origin.
 #[derive(Drop)]
 pub struct Book<T: Journal> {
     turnstile: Turnstile<T>,
@@ -26,7 +28,8 @@ impl<T: Journal> Model for Book<T> {
 }
 
 impl<T: Journal> Book<T> {
-    /// The passes stand in the order of their lanes, from 0, and have no acts.
+    /// A book of this value, and a pass for each lane: in the order of their lanes, from 0, and with no acts.
+    /// Where there is no memory the value comes back.
     pub fn begin(
         alloc: Global,
         value: T,
@@ -44,7 +47,8 @@ impl<T: Journal> Book<T> {
         }
     }
 
-    /// Takes a turn, and does the work on the value. At `Err` no act was added.
+    /// Waits for a turn, and does the work on the value. The work names the pass's lane alone. The act that
+    /// it adds is then the pass's last; at `Err` there is none.
     pub fn commit<W: Work<T>, R: Wait>(
         &self,
         rt: &R,
@@ -55,13 +59,13 @@ impl<T: Journal> Book<T> {
         requires lane { (k : ℕ) → stands k (W.lanes work.old) ≡ stands k (pass.old.lane ∷ []) }
         requires origin { pass.old.origin ≡ W.origin work.old }
         requires acts { W.lists work.old pass.old.lane ≡ pass.old.acts }
-        ensures ok { IfOk result (λ out. (a : T.Act) × (pass.new ≡ record pass.old { acts = pass.old.acts ++ a ∷ [] }) × W.first work.old a out work.new) }
+        ensures ok { IfOk result (λ out. (a : T.Act) × (pass.new ≡ with_act a pass.old) × W.first work.old a out work.new) }
         ensures err { IfErr result (λ _. (pass.new ≡ pass.old) × W.second work.old work.new) }
     {
         self.turnstile.commit(rt, pass, work)
     }
 
-    /// The same with two passes, whose lanes the act then names.
+    /// The same with two passes, whose two lanes the work names. The act is then the last of both.
     pub fn commit_pair<W: Work<T>, R: Wait>(
         &self,
         rt: &R,
@@ -73,16 +77,16 @@ impl<T: Journal> Book<T> {
         requires lanes { (k : ℕ) → stands k (W.lanes work.old) ≡ stands k (first.old.lane ∷ second.old.lane ∷ []) }
         requires origin { first.old.origin ≡ W.origin work.old }
         requires acts { (W.lists work.old first.old.lane ≡ first.old.acts) × (W.lists work.old second.old.lane ≡ second.old.acts) }
-        ensures origin { second.old.origin ≡ first.old.origin }
-        ensures ok { IfOk result (λ out. (a : T.Act) × (first.new ≡ record first.old { acts = first.old.acts ++ a ∷ [] }) × (second.new ≡ record second.old { acts = second.old.acts ++ a ∷ [] }) × W.first work.old a out work.new) }
+        ensures lanes { (first.old.lane ≢ second.old.lane) × (second.old.origin ≡ first.old.origin) }
+        ensures ok { IfOk result (λ out. (a : T.Act) × (first.new ≡ with_act a first.old) × (second.new ≡ with_act a second.old) × W.first work.old a out work.new) }
         ensures err { IfErr result (λ _. (first.new ≡ first.old) × (second.new ≡ second.old) × W.second work.old work.new) }
     {
         self.turnstile.commit_pair(rt, first, second, work)
     }
 
-    /// Takes all passes of the book, in order.
+    /// Takes all passes of the book, in order, and gives the value. Its acts that name a lane are then exactly
+    /// those of the lane's pass, in order. It takes no memory, so it doesn't refuse.
     pub fn close(self, passes: Vec<Pass<T>>) -> Result<T, (Book<T>, Vec<Pass<T>>, NoMemory)>
-        requires some { 0 < vec_len passes }
         requires all { AreAll self.id 0 self.lanes passes.items }
         ensures origin { IfOk result (λ t. T.origin t ≡ self.origin) }
         ensures lanes { IfOk result (λ t. Tells T.names (T.origin t) (T.acts t) passes.items) }

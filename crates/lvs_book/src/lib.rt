@@ -1,4 +1,4 @@
-//! A value that only the holder of a turn changes, with its history.
+//! A value that only the holder of a turn changes, with its counted history.
 #![tactic(auto)]
 
 mod begin;
@@ -6,8 +6,13 @@ mod book;
 mod close;
 mod commit;
 mod journal;
+mod leave;
+#[cfg(test)]
+mod notes;
 mod pass;
 mod plays;
+#[cfg(test)]
+mod tests;
 mod turn;
 mod turnstile;
 mod view;

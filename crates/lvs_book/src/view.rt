@@ -1,13 +1,15 @@
-//! What a pass knows. No value of it is made.
+//! What a pass knows of its book. Proofs alone speak of it: no value of these types is made.
 use std::collections::LinkedList;
 
+/// Where a pass stands.
 pub enum Phase<A> {
+    /// It has no ticket.
     Out,
-    /// The ticket.
+    /// It waits with this ticket.
     Waiting(u64),
-    /// The ticket, and the acts that were found.
+    /// It has the turn: the ticket, and the acts that it found.
     Turn(u64, LinkedList<A>),
-    /// The ticket, the acts that were found, and the act that was added.
+    /// It has counted its act: the ticket, the acts that it found, and the act that it added.
     Committed(u64, LinkedList<A>, A),
 }
 
@@ -18,6 +20,7 @@ pub struct Lane<O, A> {
     pub acts: LinkedList<A>,
 }
 
+/// Between two calls a pass has one lane; within a call it may have several.
 pub struct View<O, A> {
     pub phase: Phase<A>,
     pub lanes: LinkedList<Lane<O, A>>,
