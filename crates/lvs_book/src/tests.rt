@@ -202,7 +202,11 @@ fn two_threads_enter_a_hundred_notes_each(rt: HostRuntime) -> Result<(), Fail> {
     assert_eq!(rt; done.count(), 200);
     assert!(rt; is_hundred_in_order(&done.notes, 0));
     assert!(rt; is_hundred_in_order(&done.notes, 1));
-    let beside = done.notes.iter().filter(|note| note.beside == Some(2)).count();
+    let beside = done
+        .notes
+        .iter()
+        .filter(|note| note.beside == Some(2))
+        .count();
     assert_eq!(rt; beside, 100);
     Ok(())
 }

@@ -29,7 +29,11 @@ impl<T: Journal> Turnstile<T> {
     }
 
     // The work on the value that the seat holds, as plain memory: no step on a word, so no view changes.
-    fn work_held<W: Work<T>>(&self, seat: &mut BookSeat<T>, work: &mut W) -> Result<W::Out, NoMemory>
+    fn work_held<W: Work<T>>(
+        &self,
+        seat: &mut BookSeat<T>,
+        work: &mut W,
+    ) -> Result<W::Out, NoMemory>
         requires book { seat.old.table_id ≡ self.now.table.shared.table_id }
         requires ready { Ready T.origin T.acts T.names (W.lanes work.old) (W.origin work.old) (W.lists work.old) seat.old.me }
         ensures book { seat.new.table_id ≡ seat.old.table_id }

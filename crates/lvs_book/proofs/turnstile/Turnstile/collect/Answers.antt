@@ -18,8 +18,7 @@ loop-pass-init g c = let id = c.args.self.now.table.shared.table_id in let was =
 
 pub join_seat-requires : goal.join_seat-requires
 join_seat-requires g c = let id = c.args.self.now.table.shared.table_id in let rest = c.loop-pass.seat.me.0.lanes in
-    let more = one_more id _ c.args.passes.now.items c.pop-in-loop-pass.new.self.items _ rest c.requires.all (c.loop-pass.invariant.lanes ∙ ap (λ l. l ++ map (held_lane id) rest) c.in-Some-pop.ensures.items) in
-    (
+    let more = one_more id _ c.args.passes.now.items c.pop-in-loop-pass.new.self.items _ rest c.requires.all (c.loop-pass.invariant.lanes ∙ ap (λ l. l ++ map (held_lane id) rest) c.in-Some-pop.ensures.items) in (
       c.take_seat-longer.ensures.book ∙ sym (held_book _ _ _) ∙ ap (λ p. p.book) c.pass.view_is ∙ more.0,
       search rules,
       ap (λ m. m.1) c.loop-pass.invariant.out,
