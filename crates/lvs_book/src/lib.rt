@@ -5,6 +5,7 @@ mod begin;
 mod book;
 mod close;
 mod commit;
+pub mod examples;
 mod journal;
 mod leave;
 #[cfg(test)]
