@@ -9,6 +9,8 @@ pub mod examples;
 mod journal;
 mod leave;
 #[cfg(test)]
+mod locked;
+#[cfg(test)]
 mod notes;
 mod pass;
 mod plays;
