@@ -36,21 +36,21 @@ abbrev pub mask_addr : ℕ → Addr
 mask_addr bits = record { number = 2 ^ 32 - 2 ^ (32 - bits) }
 
 -- a word and an address, where the mask isn't 255.255.255.255
-abbrev pub mask_text : List ℕ → ℕ → List ℕ
+unfoldable pub mask_text : List ℕ → ℕ → List ℕ
 mask_text word bits = if (mask_addr bits).number == 4294967295 then [] else word ++ addr_text (mask_addr bits)
 
 -- a word and the seconds of persistence, where there is one
-abbrev pub persist_text : List ℕ → Option ℕ → List ℕ
+unfoldable pub persist_text : List ℕ → Option ℕ → List ℕ
 persist_text word None = []
 persist_text word (Some seconds) = word ++ decimal seconds
 
 -- a word where a flag is set
-abbrev pub flag_text : List ℕ → Bool → List ℕ
+unfoldable pub flag_text : List ℕ → Bool → List ℕ
 flag_text word true = word
 flag_text word false = []
 
 -- a word and a threshold, where it isn't 0
-abbrev pub threshold_text : List ℕ → ℕ → List ℕ
+unfoldable pub threshold_text : List ℕ → ℕ → List ℕ
 threshold_text word threshold = if threshold == 0 then [] else word ++ decimal threshold
 
 -- the live servers of a service, in order
