@@ -18,7 +18,7 @@ no_pass place n p e false is here none = is
 pub chain_fails : (place : ℕ → Option ℕ) (n : ℕ) (p : Entry → Bool) (es : List Entry) → AllByRecursion (Belongs place n) es → ((e : Entry) → Belongs place n e → p e ≡ true → ⊥) → AllByRecursion (λ e. p e ≡ false) es
 chain_fails place n p es all none = all_weaker (Belongs place n) (λ e. p e ≡ false) (λ e here. no_pass place n p e (p e) refl here none) es all
 
-all_join : {X : Type 0} (P : X → Type 0) (xs ys : List X) → AllByRecursion P xs → AllByRecursion P ys → AllByRecursion P (xs ++ ys)
+pub all_join : {X : Type 0} (P : X → Type 0) (xs ys : List X) → AllByRecursion P xs → AllByRecursion P ys → AllByRecursion P (xs ++ ys)
 all_join P [] ys front back = back
 all_join P (x ∷ xs) ys front back = (front.0, all_join P xs ys front.1 back)
 
@@ -62,7 +62,7 @@ chained_set place n zero k (x ∷ chains) c chained within at all =
     (all_weaker (Belongs place k) (Belongs place n) (λ e here. record { by_key = here.by_key ∙ same; by_id = here.by_id ∙ ap (λ m. Some m) same }) c.entries all, chained.1)
 chained_set place n (suc i) k (x ∷ chains) c chained within at all = (chained.0, chained_set place (n + 1) i k chains c chained.1 (omega arith) (omega arith) all)
 
-join_front : {X : Type 0} (P : X → Type 0) (xs ys : List X) → AllByRecursion P (xs ++ ys) → AllByRecursion P xs
+pub join_front : {X : Type 0} (P : X → Type 0) (xs ys : List X) → AllByRecursion P (xs ++ ys) → AllByRecursion P xs
 join_front P [] ys all = tt
 join_front P (x ∷ xs) ys all = (all.0, join_front P xs ys all.1)
 

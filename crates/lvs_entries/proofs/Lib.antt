@@ -7,3 +7,8 @@ pub mod Listed
 pub mod Passing
 pub mod Chained
 pub mod Tests
+pub mod Looking
+pub mod Kept
+pub mod Renewed
+pub mod Entered
+pub mod Widened

@@ -1,13 +1,12 @@
-// A library with one function.
+//! The deadlines of entries, in due lists.
 #![tactic(auto)]
 
-ghost use Rattle.std.specs.Prelude.{◌≡◌};
-ghost use Rattle.lvs_timer.specs.Echo.{echo_of};
+mod shelf;
+mod shelves;
+mod timer;
+mod timers;
+#[cfg(test)]
+mod tests;
 
-// The `ensures` clause is the contract: what `echo` returns is `echo_of` of its argument, a definition
-// in `specs/Echo.antt`, which a caller's clause can cite too.
-pub fn echo(x: usize) -> usize
-    ensures { result ≡ echo_of x }
-{
-    x
-}
+pub use timer::Timer;
+pub use timers::Timers;
