@@ -15,14 +15,14 @@ use Rattle.lvs_entries.proofs.Order.{all_weaker, sorted_put}
 use Rattle.lvs_entries.proofs.Listed.{id_of}
 use Rattle.lvs_entries.proofs.Passing.{filter_none, none_found, find_sorted, count_put}
 use Rattle.lvs_entries.proofs.Chained.{IsPut, chain_at, chained_set, chained_moved, put_at, join_front, all_join}
-use Rattle.lvs_entries.proofs.Tests.{key_same}
+use Rattle.lvs_entries.proofs.Belonging.{key_same}
 use Rattle.lvs_entries.proofs.Kept.{room_write, room_less, room_at, places_kept}
 
-count_zero : {X : Type 0} (p : X → Bool) (xs : List X) → AllByRecursion (λ x. p x ≡ false) xs → count_by p xs ≡ 0
+pub count_zero : {X : Type 0} (p : X → Bool) (xs : List X) → AllByRecursion (λ x. p x ≡ false) xs → count_by p xs ≡ 0
 count_zero p xs none = sym (length-filter p xs) ∙ ap (λ ys. length ys) (filter_none p xs none)
 
 -- one more passes, where none did, or it doesn't pass
-put_once : {X : Type 0} (p : X → Bool) (x : X) (front back : List X) (b : Bool) → p x ≡ b → (p x ≡ true → AllByRecursion (λ y. p y ≡ false) (front ++ back)) → count_by p (front ++ back) ≤ 1 → count_by p (front ++ x ∷ back) ≤ 1
+pub put_once : {X : Type 0} (p : X → Bool) (x : X) (front back : List X) (b : Bool) → p x ≡ b → (p x ≡ true → AllByRecursion (λ y. p y ≡ false) (front ++ back)) → count_by p (front ++ back) ≤ 1 → count_by p (front ++ x ∷ back) ≤ 1
 put_once p x front back true is none once =
     let whole = count_put p x front back ∙ ap (λ (b : Bool). cond b 1 0 + count_by p (front ++ back)) is in
     let zero_there = count_zero p (front ++ back) (none is) in
@@ -32,7 +32,7 @@ put_once p x front back false is none once =
     omega arith
 
 module _ (chains : List ChainSeen) (place : ℕ → Option ℕ) (spare room : ℕ) (store : IsStore chains place spare room) (v : Entry) (k : ℕ) (c d : ChainSeen) (is : k ≡ key_chain v.key) (below : k < 256)
-  (new_id : find (has_entry_id v.id) (entries_in chains) ≡ None) (new_key : entry_at v.key (entries_in chains) ≡ None) (pushed : c.entries ≡ (get_or chains k d).entries ++ v ∷ []) where
+    (new_id : find (has_entry_id v.id) (entries_in chains) ≡ None) (new_key : entry_at v.key (entries_in chains) ≡ None) (pushed : c.entries ≡ (get_or chains k d).entries ++ v ∷ []) where
   within : k < length chains
   within = let count = store.count in omega arith
 
@@ -71,8 +71,8 @@ module _ (chains : List ChainSeen) (place : ℕ → Option ℕ) (spare room : �
       let chained : AreChained place' 0 chains = chained_moved place place' 0 chains store.chained (places_kept v.id (Some k) place place' update (all_of chains) others) in
       let own : place' v.id ≡ Some k = update v.id ∙ ap (λ (b : Bool). cond b (Some k) (place v.id)) (eq-eqb v.id v.id refl) in
       let members : AllByRecursion (Belongs place' k) c.entries =
-              subst (λ (es : List Entry). AllByRecursion (Belongs place' k) es) (sym pushed)
-              (all_join (Belongs place' k) (get_or chains k d).entries (v ∷ []) (chain_at place' 0 k k d chains chained within (omega arith)) (record { by_key = sym is; by_id = own }, tt)) in
+      subst (λ (es : List Entry). AllByRecursion (Belongs place' k) es) (sym pushed)
+      (all_join (Belongs place' k) (get_or chains k d).entries (v ∷ []) (chain_at place' 0 k k d chains chained within (omega arith)) (record { by_key = sym is; by_id = own }, tt)) in
       record {
         count = length-set chains k c ∙ store.count;
         chained = chained_set place' 0 k k chains c chained within (omega arith) members;

@@ -16,7 +16,7 @@ use Rattle.lvs_entries.proofs.Order.{all_weaker, all_filter, filter_sorted, map_
 use Rattle.lvs_entries.proofs.Listed.{id_of, ids_once}
 use Rattle.lvs_entries.proofs.Passing.{filter_none, keep_all, none_found, none_counted, find_sorted, find_none, update_is, count_put, count_filter, count_map, found_holds}
 use Rattle.lvs_entries.proofs.Chained.{OnlyIn, IsPut, chain_at, chained_set, chained_moved, without_at, changed, changed_at, put_at, join_front, all_join}
-use Rattle.lvs_entries.proofs.Tests.{key_same, id_only}
+use Rattle.lvs_entries.proofs.Belonging.{key_same, id_only}
 use Rattle.lvs_entries.proofs.Looking.{look, id_nowhere}
 
 -- ---- room

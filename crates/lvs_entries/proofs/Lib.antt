@@ -6,7 +6,7 @@ pub mod Rooms
 pub mod Listed
 pub mod Passing
 pub mod Chained
-pub mod Tests
+pub mod Belonging
 pub mod Looking
 pub mod Kept
 pub mod Renewed

@@ -17,7 +17,7 @@ use Rattle.lvs_entries.proofs.Order.{all_weaker}
 use Rattle.lvs_entries.proofs.Listed.{id_of}
 use Rattle.lvs_entries.proofs.Passing.{filter_none, find_sorted, least_of, count_part}
 use Rattle.lvs_entries.proofs.Chained.{OnlyIn, filter_at, chain_at, chains_fail}
-use Rattle.lvs_entries.proofs.Tests.{key_only, reply_only, id_only, chain_only}
+use Rattle.lvs_entries.proofs.Belonging.{key_only, reply_only, id_only, chain_only}
 
 below_256 : (n : ℕ) → n % 256 < 256
 below_256 n = omega arith

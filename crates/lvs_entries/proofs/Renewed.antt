@@ -17,7 +17,7 @@ use Rattle.lvs_entries.proofs.Order.{all_weaker, map_sorted}
 use Rattle.lvs_entries.proofs.Listed.{id_of, ids_once}
 use Rattle.lvs_entries.proofs.Passing.{find_sorted, update_is, count_map, found_holds}
 use Rattle.lvs_entries.proofs.Chained.{chain_at, chained_set, changed, changed_at, filter_at, all_join}
-use Rattle.lvs_entries.proofs.Tests.{id_only}
+use Rattle.lvs_entries.proofs.Belonging.{id_only}
 use Rattle.lvs_entries.proofs.Kept.{room_write, room_at}
 
 -- ---- where an entry that is found belongs
@@ -60,7 +60,7 @@ there_is None P there = absurd there
 there_is (Some x) P there = (x, refl, there)
 
 module _ (chains : List ChainSeen) (place : ℕ → Option ℕ) (spare room : ℕ) (store : IsStore chains place spare room) (v : Entry) (k : ℕ) (c d : ChainSeen) (is : k ≡ key_chain v.key) (below : k < 256)
-  (there : IsSomeAnd (find (has_entry_id v.id) (entries_in chains)) (λ old. old.key ≡ v.key)) (put : c.entries ≡ put_entry v (get_or chains k d).entries) where
+    (there : IsSomeAnd (find (has_entry_id v.id) (entries_in chains)) (λ old. old.key ≡ v.key)) (put : c.entries ≡ put_entry v (get_or chains k d).entries) where
   abbrev p : Entry → Bool
   p = has_entry_id v.id
 

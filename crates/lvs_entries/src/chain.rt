@@ -106,7 +106,11 @@ impl Chain {
 
     /// The entry of a reply: the one of least id. A step is one entry compared.
     #[tactic(auto, using(crate::proofs::Least::lead_more))]
-    pub(crate) fn find_reply<L: Ledger>(&self, sides: &ReplySides, steps: &mut Steps<L>) -> Option<&Entry>
+    pub(crate) fn find_reply<L: Ledger>(
+        &self,
+        sides: &ReplySides,
+        steps: &mut Steps<L>,
+    ) -> Option<&Entry>
         requires { steps.old < 2 ^ 62 }
         ensures found { option_copied result ≡ reply_entry sides.now.proto sides.now.daddr sides.now.dport sides.now.caddr sides.now.cport self.now.entries }
         ensures steps { steps.new ≤ steps.old + length self.now.entries }

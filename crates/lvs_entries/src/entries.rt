@@ -149,7 +149,14 @@ impl Entries {
 
     /// The entry of a reply: of the masqueraded connections between the server's side `daddr`,
     /// `dport` and the client's side `caddr`, `cport` the one of least id.
-    pub fn find_out(&self, proto: Proto, daddr: Addr, dport: u16, caddr: Addr, cport: u16) -> Option<&Entry>
+    pub fn find_out(
+        &self,
+        proto: Proto,
+        daddr: Addr,
+        dport: u16,
+        caddr: Addr,
+        cport: u16,
+    ) -> Option<&Entry>
         ensures { option_copied result ≡ reply_entry proto daddr dport caddr cport self.now.entries }
     {
         let sides = ReplySides {
@@ -163,7 +170,15 @@ impl Entries {
     }
 
     /// The entry of a reply. A step is one entry compared: at most those of the tuple's chain.
-    pub fn find_out_counted<L: Ledger>(&self, proto: Proto, daddr: Addr, dport: u16, caddr: Addr, cport: u16, steps: &mut Steps<L>) -> Option<&Entry>
+    pub fn find_out_counted<L: Ledger>(
+        &self,
+        proto: Proto,
+        daddr: Addr,
+        dport: u16,
+        caddr: Addr,
+        cport: u16,
+        steps: &mut Steps<L>,
+    ) -> Option<&Entry>
         requires { steps.old < 2 ^ 62 }
         ensures found { option_copied result ≡ reply_entry proto daddr dport caddr cport self.now.entries }
         ensures steps { steps.new ≤ steps.old + count_by (is_in_chain (chain_by proto caddr cport)) self.now.entries }

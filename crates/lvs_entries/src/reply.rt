@@ -36,12 +36,6 @@ pub(crate) fn lower<'a>(least: Option<&'a Entry>, next: &'a Entry) -> &'a Entry
 {
     match least {
         None => next,
-        Some(e) => {
-            if e.id <= next.id {
-                e
-            } else {
-                next
-            }
-        }
+        Some(e) => { if e.id <= next.id { e } else { next } }
     }
 }

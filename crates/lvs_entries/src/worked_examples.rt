@@ -7,5 +7,4 @@ ghost use Rattle.lvs_entries.specs.Chains.{chain_of};
 pub fn chains_of_two_ports()
     ensures first { chain_of Tcp (record { number = 0xAC10_0009 }) 40000 ≡ 39 }
     ensures second { chain_of Tcp (record { number = 0xAC10_0009 }) 40001 ≡ 138 }
-{
-}
+{}

@@ -8,5 +8,5 @@ abbrev pub invariant-loop-e : goal.invariant-loop-e
 invariant-loop-e g l = record {
   counted : l.steps ≤ l.initial.steps + l.e-index;
   left :
-    lead (option_copied l.least) (reply_entry l.sides.proto l.sides.daddr l.sides.dport l.sides.caddr l.sides.cport (drop l.e-index l.self.entries)) ≡ reply_entry l.sides.proto l.sides.daddr l.sides.dport l.sides.caddr l.sides.cport l.self.entries;
+      lead (option_copied l.least) (reply_entry l.sides.proto l.sides.daddr l.sides.dport l.sides.caddr l.sides.cport (drop l.e-index l.self.entries)) ≡ reply_entry l.sides.proto l.sides.daddr l.sides.dport l.sides.caddr l.sides.cport l.self.entries;
 }

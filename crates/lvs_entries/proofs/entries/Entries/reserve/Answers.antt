@@ -27,7 +27,7 @@ pub returns-in_err-make_room-clause-err : goal.returns-in_err-make_room-clause-e
 returns-in_err-make_room-clause-err c =
     let back = whole_back c.self.inside.chains.len c.self.inside.chains.items c.make_room.new.chains (c.make_room.auto.chains ∙ ap (λ (cs : List ChainSeen). length cs) c.deref_mut.ensures.value) (omega arith) in
     let entries : entries_in (take c.self.inside.chains.len (c.make_room.new.chains ++ drop (length c.make_room.new.chains) c.self.inside.chains.items)) ≡ entries_in c.self.inside.chains.items =
-            ap entries_in back ∙ entries_same c.self.inside.chains.items c.make_room.new.chains (c.make_room.ensures.entries ∙ ap lists_of c.deref_mut.ensures.value) in
+    ap entries_in back ∙ entries_same c.self.inside.chains.items c.make_room.new.chains (c.make_room.ensures.entries ∙ ap lists_of c.deref_mut.ensures.value) in
     on_err c.from_residual-in_err-make_room.result _ (ap (λ es. record { entries = es; spare = c.self.inside.room }) entries ∙ c.self.view_is)
 
 pub invariant_of-self-2 : goal.invariant_of-self-2

@@ -1,0 +1,4 @@
+pub mod DueOrder
+pub mod Shelved
+pub mod Widened
+pub mod Kept
