@@ -66,7 +66,7 @@ pub join_front : {X : Type 0} (P : X → Type 0) (xs ys : List X) → AllByRecur
 join_front P [] ys all = tt
 join_front P (x ∷ xs) ys all = (all.0, join_front P xs ys all.1)
 
-join_back : {X : Type 0} (P : X → Type 0) (xs ys : List X) → AllByRecursion P (xs ++ ys) → AllByRecursion P ys
+pub join_back : {X : Type 0} (P : X → Type 0) (xs ys : List X) → AllByRecursion P (xs ++ ys) → AllByRecursion P ys
 join_back P [] ys all = all
 join_back P (x ∷ xs) ys all = join_back P xs ys all.1
 

@@ -3,10 +3,10 @@
 
 mod shelf;
 mod shelves;
-mod timer;
-mod timers;
 #[cfg(test)]
 mod tests;
+mod timer;
+mod timers;
 
 pub use timer::Timer;
 pub use timers::Timers;

@@ -84,7 +84,12 @@ impl Shelf {
 
     /// Appends the ids of the due timers. A step is one timer looked at: each due one, and the
     /// first that isn't.
-    pub(crate) fn list_due<L: Ledger>(&self, now: u64, ids: &mut Vec<u64>, steps: &mut Steps<L>) -> Result<(), NoMemory>
+    pub(crate) fn list_due<L: Ledger>(
+        &self,
+        now: u64,
+        ids: &mut Vec<u64>,
+        steps: &mut Steps<L>,
+    ) -> Result<(), NoMemory>
         requires { steps.old < 2 ^ 63 + 2 ^ 62 + 2 ^ 10 }
         ensures ok { OnOk result (ids.new.items ≡ ids.old.items ++ ids_of (filter (is_due now) self.now.timers)) }
         ensures steps { steps.new ≤ steps.old + count_by (is_due now) self.now.timers + 1 }

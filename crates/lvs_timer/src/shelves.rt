@@ -35,7 +35,12 @@ pub(crate) fn make_room(shelves: &mut [Shelf], room: usize) -> Result<(), NoMemo
 }
 
 /// The ids of the due timers, list by list. A step is one timer looked at.
-pub(crate) fn gather_due<L: Ledger>(alloc: Global, shelves: &[Shelf], now: u64, steps: &mut Steps<L>) -> Result<Vec<u64>, NoMemory>
+pub(crate) fn gather_due<L: Ledger>(
+    alloc: Global,
+    shelves: &[Shelf],
+    now: u64,
+    steps: &mut Steps<L>,
+) -> Result<Vec<u64>, NoMemory>
     requires young { steps.old < 2 ^ 62 }
     requires few { length shelves.now ≤ 16 }
     ensures ids { IfOk result (λ ids. ids.items ≡ ids_of (filter (is_due now) (all_of shelves.now))) }

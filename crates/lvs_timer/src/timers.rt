@@ -1,5 +1,5 @@
 //! The deadlines of one bucket's entries.
-ghost use Rattle.std.specs.Prelude.{◌≡◌, ◌<◌, ◌≤◌, ◌+◌, ◌^◌, [], count_by, IfOk, OnOk, OnErr, None, Some};
+ghost use Rattle.std.specs.Prelude.{◌≡◌, ◌<◌, ◌≤◌, ◌+◌, ◌%◌, ◌^◌, [], count_by, IfOk, OnOk, OnErr, None, Some};
 ghost use Rattle.std.specs.List.{find, filter};
 ghost use Rattle.lvs_model.specs.Lists.{without, insert_by};
 ghost use Rattle.lvs_timer.specs.declared.timer.Timer.{Timer};
@@ -94,12 +94,18 @@ impl Timers {
     pub fn due(&self, alloc: Global, now: u64) -> Result<Vec<u64>, NoMemory>
         ensures ids { IfOk result (λ ids. ids.items ≡ ids_of (filter (is_due now) self.now.timers)) }
         ensures rising { IfOk result (λ ids. IsStrictlyIncreasing ids.items) }
+        ensures listed { AreListed self.now.timers }
     {
         self.due_from::<Brand>(alloc, now, Blank::new(1))
     }
 
     /// The due ids. A step is one armed id looked at: at most the due ones and one of each list.
-    pub fn due_counted<L: Ledger>(&self, alloc: Global, now: u64, steps: &mut Steps<L>) -> Result<Vec<u64>, NoMemory>
+    pub fn due_counted<L: Ledger>(
+        &self,
+        alloc: Global,
+        now: u64,
+        steps: &mut Steps<L>,
+    ) -> Result<Vec<u64>, NoMemory>
         requires { steps.old < 2 ^ 62 }
         ensures ids { IfOk result (λ ids. ids.items ≡ ids_of (filter (is_due now) self.now.timers)) }
         ensures rising { IfOk result (λ ids. IsStrictlyIncreasing ids.items) }
@@ -111,12 +117,18 @@ impl Timers {
         Ok(ids)
     }
 
-    fn due_from<L: Ledger>(&self, alloc: Global, now: u64, blank: Blank) -> Result<Vec<u64>, NoMemory>
+    fn due_from<L: Ledger>(
+        &self,
+        alloc: Global,
+        now: u64,
+        blank: Blank,
+    ) -> Result<Vec<u64>, NoMemory>
         requires one_part { blank.parts ≡ 1 }
         requires name { blank.name ≡ L.name }
         requires parts { blank.parts ≡ L.parts }
         ensures ids { IfOk result (λ ids. ids.items ≡ ids_of (filter (is_due now) self.now.timers)) }
         ensures rising { IfOk result (λ ids. IsStrictlyIncreasing ids.items) }
+        ensures listed { AreListed self.now.timers }
     {
         let mut steps = Steps::<L>::new(blank);
         self.due_counted(alloc, now, &mut steps)
