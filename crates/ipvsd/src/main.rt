@@ -44,14 +44,28 @@ fn tell(rt: &HostRuntime, status: &Status) {
     };
 }
 
+/// Tells how the run ended, and gives its exit status.
+fn end(rt: &HostRuntime, status: &Status) -> ExitCode {
+    tell(rt, status);
+    ExitCode::from(code_of(status))
+}
+
+/// Ends a run whose words aren't text, or for whose words there was no memory.
+fn end_without_words(rt: &HostRuntime, error: &io::Error) -> ExitCode {
+    if error.kind() == io::ErrorKind::OutOfMemory {
+        return end(rt, &Status::NoMemory);
+    }
+    let _ = eprintln!(rt; "ipvsd: words refused");
+    ExitCode::from(BAD_WORDS)
+}
+
 fn main(rt: HostRuntime) -> ExitCode {
-    let Ok(words) = words(&rt) else {
-        let _ = eprintln!(rt; "ipvsd: words refused");
-        return ExitCode::from(BAD_WORDS);
+    let words = match words(&rt) {
+        Ok(words) => words,
+        Err(error) => return end_without_words(&rt, &error),
     };
     let mut source = ReadSource::new(rt.reader());
     let mut sink = WriteSink::new(io::writer(&rt));
     let done = serve(&rt, rt.alloc(), &words, &mut source, &mut sink, &OpenGate);
-    tell(&rt, &done.status);
-    ExitCode::from(code_of(&done.status))
+    end(&rt, &done.status)
 }
