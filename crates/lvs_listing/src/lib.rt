@@ -12,6 +12,7 @@ mod saving;
 mod services;
 #[cfg(test)]
 mod tests;
+pub mod worked_examples;
 
 pub use connections::list_conns;
 pub use refused::RestoreRefused;
