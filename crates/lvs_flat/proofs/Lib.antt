@@ -4,3 +4,4 @@ pub mod Weighed
 pub mod Runs
 pub mod Short
 pub mod Room
+pub mod Ordered

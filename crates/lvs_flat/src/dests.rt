@@ -23,7 +23,8 @@ pub(crate) fn find_id(dests: &[Dest], id: DestId) -> Option<Dest>
     None
 }
 
-fn is_live_of(d: &Dest, key: ServiceKey) -> bool
+/// Whether it is a live server of the service.
+pub(crate) fn is_live_of(d: &Dest, key: ServiceKey) -> bool
     ensures { result ≡ is_server_of key d.now }
 {
     d.live && d.service == key

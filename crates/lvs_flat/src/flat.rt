@@ -4,9 +4,11 @@ ghost use Rattle.lvs_model.specs.Messages.{HasOldFlags};
 ghost use Rattle.std.specs.List.{AllByRecursion};
 ghost use Rattle.lvs_flat.specs.Tables.{state_of};
 ghost use Rattle.lvs_flat.specs.Bounds.{HasRoom};
+ghost use Rattle.lvs_model.specs.Snapshots.{snapshot_of};
 ghost use Rattle.lvs_model.specs.State.{initial};
 ghost use Rattle.lvs_model.specs.Step.{step, IsInRange};
 ghost use Rattle.lvs_model.specs.Counted.{IsCounted};
+ghost use Rattle.lvs_model.specs.WellFormed.{IsWellFormed};
 
 use crate::arriving::do_incoming;
 use crate::clock::{do_reap, do_sweep, do_tick};
@@ -14,8 +16,9 @@ use crate::edits::{do_edit, do_set};
 use crate::learning::do_learn;
 use crate::outgoing::do_outgoing;
 use crate::sending::do_send;
+use crate::snapshot::show;
 use crate::tables::Tables;
-use lvs_types::{Addr, Item, NoMemory, Reply};
+use lvs_types::{Addr, Item, NoMemory, Reply, Snapshot};
 use std::alloc::Global;
 use std::marker::Model;
 
@@ -35,10 +38,11 @@ impl Model for Flat {
 
     ghost use Rattle.lvs_flat.specs.Tables.{state_of};
     ghost use Rattle.lvs_model.specs.Counted.{IsCounted};
+    ghost use Rattle.lvs_model.specs.WellFormed.{IsWellFormed};
 
     ghost view = { λ f. record { state = state_of f.tables; steps = f.steps } };
 
-    ghost invariant = { λ f. IsCounted f.steps (state_of f.tables) };
+    ghost invariant = { λ f. IsCounted f.steps (state_of f.tables) × IsWellFormed (state_of f.tables) };
 }
 
 fn do_step(alloc: Global, tables: &mut Tables, item: &Item) -> Result<Reply, NoMemory>
@@ -83,6 +87,14 @@ impl Flat {
         ensures { result ≡ self.now.steps }
     {
         self.steps
+    }
+
+    /// All that it keeps, in the order in which listings show it. Its state is well formed.
+    pub fn snapshot(&self) -> Result<Snapshot, NoMemory>
+        ensures shown { IfOk result (λ s. s ≡ snapshot_of self.now.state) }
+        ensures well_formed { IsWellFormed self.now.state }
+    {
+        show(self.alloc, &self.tables)
     }
 
     /// Takes an item: the definition's reply, and the definition's next state. For want of memory

@@ -22,6 +22,7 @@ mod sending;
 mod servers;
 mod services;
 mod serving;
+mod snapshot;
 mod tables;
 mod templates;
 

@@ -17,4 +17,6 @@ pub use serial::serve_serial;
 pub use top::serve;
 
 #[cfg(test)]
+mod rows;
+#[cfg(test)]
 mod tests;

@@ -1,0 +1,5 @@
+//! A director's state stays well formed and its ids rise: laws of the definitions.
+#![tactic(auto)]
+
+pub mod laws;
+pub mod worked_examples;
