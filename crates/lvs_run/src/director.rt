@@ -5,7 +5,8 @@ ghost use Rattle.lvs_model.specs.Step.{step, IsInRange};
 ghost use Rattle.lvs_model.specs.Plans.{listings_of};
 ghost use Rattle.lvs_model.specs.Listings.{shown_of};
 
-use crate::listed::has_listing;
+use crate::listed::{has_listing, show_lines};
+use lvs_flat::Flat;
 use lvs_types::{Addr, Item, Listed, NoMemory, Reply, Round, ShownText};
 use std::alloc::Global;
 use std::marker::Model;
@@ -14,34 +15,37 @@ use std::marker::Model;
 /// taken.
 #[derive(Drop)]
 pub(crate) struct Director {
-    steps: u64,
+    flat: Flat,
 }
 
 impl Model for Director {
     ghost use Rattle.lvs_run.specs.Seen.{DirectorSeen};
-    ghost use Rattle.lvs_model.specs.State.{initial};
 
     ghost Value = { DirectorSeen };
 
-    ghost view = { λ d. record { state = initial (record { number = 0 }) 1; steps = d.steps } };
+    ghost view = { λ d. record { state = d.flat.state; steps = d.flat.steps } };
 }
 
 impl Director {
     /// A director with nothing in it.
-    pub(crate) fn new(_alloc: Global, _local: Addr) -> Result<Director, NoMemory>
-        ensures state { IfOk result (λ d. d.state ≡ initial _local 1) }
+    pub(crate) fn new(alloc: Global, local: Addr) -> Result<Director, NoMemory>
+        ensures state { IfOk result (λ d. d.state ≡ initial local 1) }
         ensures steps { IfOk result (λ d. d.steps ≡ 0) }
     {
-        Err(NoMemory)
+        Ok(Director {
+            flat: Flat::new(alloc, local, 1)?,
+        })
     }
 
+    /// Takes an item. Scripts name no item that the director can't take, and no script has so many
+    /// that it couldn't count them.
     pub(crate) fn step(&mut self, item: &Item) -> Result<Reply, NoMemory>
         requires in_range { IsInRange item.now }
         requires young { self.old.steps < 2 ^ 62 }
         ensures ok { IfOk result (λ reply. (reply, self.new.state) ≡ step self.old.state item.now) }
         ensures steps { OnOk result (self.new.steps ≡ self.old.steps + 1) }
     {
-        Err(NoMemory)
+        self.flat.step(item)
     }
 
     /// The listings of a round, of the director as it is now.
@@ -51,6 +55,8 @@ impl Director {
         if !has_listing(round) {
             return Ok(Listed::new(alloc));
         }
-        Err(NoMemory)
+        let tables = self.flat.snapshot()?;
+        let shown = show_lines(alloc, &tables, round.lines.as_slice())?;
+        Ok(Listed::from_vec(shown))
     }
 }
