@@ -5,6 +5,7 @@ ghost use Rattle.lvs_model.specs.Plans.{shown_by};
 ghost use Rattle.lvs_model.specs.Listings.{text_of};
 ghost use Rattle.lvs_run.specs.Listed.{is_listing, shown_in, all_shown_in};
 
+use lvs_listing::{list, list_conns, save};
 use lvs_types::{Bytes, NoMemory, Round, ScriptLine, Shown, ShownText, Snapshot};
 use std::alloc::Global;
 
@@ -43,10 +44,15 @@ fn kind_of(alloc: Global, kind: &Shown) -> Result<Shown, NoMemory>
 }
 
 /// The lines of a listing. No line of a script asks for an answer to an ICMP error so far.
-fn text_of(_alloc: Global, tables: &Snapshot, kind: &Shown) -> Result<Bytes, NoMemory>
+fn text_of(alloc: Global, tables: &Snapshot, kind: &Shown) -> Result<Bytes, NoMemory>
     ensures { IfOk result (λ text. text ≡ text_of tables.entry.now kind.now) }
 {
-    Err(NoMemory)
+    match kind {
+        Shown::List => list(alloc, tables),
+        Shown::Conns => list_conns(alloc, tables),
+        Shown::Save => save(alloc, tables),
+        Shown::IcmpIn(_) | Shown::IcmpOut(_) => Ok(Bytes::new(alloc)),
+    }
 }
 
 /// A listing with its lines.
