@@ -1,3 +1,11 @@
 pub mod Acts
 pub mod Books
 pub mod FaultTexts
+pub mod Orders
+pub mod Numbered
+pub mod LegalLemmas
+pub mod Runs
+pub mod Within
+pub mod Items
+pub mod Unlisted
+pub mod AnswerLemmas

@@ -5,7 +5,7 @@ mod director;
 mod done;
 mod fault;
 mod input;
-mod playable;
+mod listed;
 mod played;
 mod program_words;
 mod round;
