@@ -140,6 +140,16 @@ const ROWS: &[Row] = &[
         script: b"local 10.0.0.254\nat 0\nin 0 45\nin 0 4500002800014000400684b4ac1000090a0000019c4000500000000000000000500220003d380000\nin 0 4500001c00014000400184c6ac1000090a0000010800f7ff00000000\nin 0 4500002800014000400684b5ac1000090a0000019c4000500000000000000000501020003d2a0000\n",
         report: b"round 0 at 0 workers 1 buckets 1\n2 3.0 drop malformed short\n3 3.1 drop malformed headersum\n4 3.2 pass\n5 3.3 pass\n",
     },
+    Row {
+        name: "an ordinary service by NAT",
+        script: b"local 10.0.0.254\nat 100\nipvs -A -t 10.0.0.1:80 -s wlc\nipvs -a -t 10.0.0.1:80 -r 192.168.0.1:8080 -m -w 2\nipvs -a -t 10.0.0.1:80 -r 192.168.0.2:8080 -m\nipvs --start-daemon master --mcast-interface eth0 --syncid 7\nin 0 4500002800014000400684b5ac1000090a0000019c4000500000000000000000500220003d380000\nout 45000028000140004006ce0cc0a80001ac1000091f909c40000000000000000050122000673f0000\nin 0 4500002800014000400684b5ac1000090a0000019c4000500000000000000000501020003d2a0000\nlist\nconns\nsave\n",
+        report: b"round 0 at 100 workers 1 buckets 1\n2 1.0 ok\n3 1.1 ok\n4 1.2 ok\n5 1.3 ok\n6 3.0 fwd masq 192.168.0.1 45000028000140004006ce0cac100009c0a800019c401f90000000000000000050022000674f0000\n7 3.1 out 4500002800014000400684b50a000001ac10000900509c400000000000000000501220003d280000\n8 3.2 fwd masq 192.168.0.1 45000028000140004006ce0cac100009c0a800019c401f9000000000000000005010200067410000\n9 0.2 sent 0007002c01010000000600240000000000019c4000501f900000000000000384ac1000090a000001c0a80001\nlist\nTCP 10.0.0.1:80 wlc\n  -> 192.168.0.1:8080 Masq 2 1 0\n  -> 192.168.0.2:8080 Masq 1 0 0\nend\nconns\nTCP 900 ESTABLISHED 172.16.0.9:40000 10.0.0.1:80 192.168.0.1:8080\nend\nsave\n-A -t 10.0.0.1:80 -s wlc\n-a -t 10.0.0.1:80 -r 192.168.0.1:8080 -m -w 2\n-a -t 10.0.0.1:80 -r 192.168.0.2:8080 -m -w 1\nend\n",
+    },
+    Row {
+        name: "listings of marks, masks, datagrams and templates",
+        script: b"local 10.0.0.254\nat 0\nipvs -A -f 7 -s rr -p 60 -M 255.255.255.0\nipvs -a -f 7 -r 192.168.0.1 -g -x 4 -y 2\nipvs -A -u 10.0.0.1:53 -s wrr -o\nipvs -a -u 10.0.0.1:53 -r 192.168.0.2:5353 -m -w 3\nin 7 4500002800014000400684b5ac1000090a0000019c4000500000000000000000500220003d380000\nlist\nconns\nsave\n",
+        report: b"round 0 at 0 workers 1 buckets 1\n2 1.0 ok\n3 1.1 ok\n4 1.2 ok\n5 1.3 ok\n6 3.0 fwd direct 192.168.0.1 4500002800014000400684b5ac1000090a0000019c4000500000000000000000500220003d380000\nlist\nFWM 7 rr persistent 60 mask 255.255.255.0\n  -> 192.168.0.1:0 Route 1 0 1\nUDP 10.0.0.1:53 wrr ops\n  -> 192.168.0.2:5353 Masq 3 0 0\nend\nconns\nTCP 60 SYN_RECV 172.16.0.9:40000 10.0.0.1:80 192.168.0.1:80\nTPL 60 IP 172.16.0.0:0 0.0.0.7:0 192.168.0.1:0\nend\nsave\n-A -f 7 -s rr -p 60 -M 255.255.255.0\n-a -f 7 -r 192.168.0.1:0 -g -w 1 -x 4 -y 2\n-A -u 10.0.0.1:53 -s wrr -o\n-a -u 10.0.0.1:53 -r 192.168.0.2:5353 -m -w 3\nend\n",
+    },
 ];
 
 fn reported(alloc: Global, script: &[u8]) -> Result<(Status, Vec<u8>), NoMemory> {
