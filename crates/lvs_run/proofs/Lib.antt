@@ -1,2 +1,10 @@
 pub mod Acts
 pub mod Books
+pub mod Orders
+pub mod Numbered
+pub mod LegalLemmas
+pub mod Runs
+pub mod Within
+pub mod Items
+pub mod Unlisted
+pub mod AnswerLemmas

@@ -1,55 +1,62 @@
 //! The director that `serial` runs on: one place to change.
-ghost use Rattle.std.specs.Prelude.{◌≡◌, true};
-ghost use Rattle.lvs_model.specs.Step.{IsInRange};
+ghost use Rattle.std.specs.Prelude.{◌≡◌, ◌<◌, ◌+◌, ◌^◌, IfOk, OnOk};
+ghost use Rattle.lvs_model.specs.State.{initial};
+ghost use Rattle.lvs_model.specs.Step.{step, IsInRange};
+ghost use Rattle.lvs_model.specs.Plans.{listings_of};
+ghost use Rattle.lvs_model.specs.Listings.{shown_of};
 
+use crate::listed::{has_listing, show_lines};
 use lvs_flat::Flat;
-use lvs_types::{Addr, Item, NoMemory, Reply};
+use lvs_types::{Addr, Item, Listed, NoMemory, Reply, Round, ShownText};
 use std::alloc::Global;
+use std::marker::Model;
 
-/// The last moment, in seconds, that a script may name.
-const LAST_MOMENT: u64 = 4_294_967_295;
-
-/// So many steps a director can count. No script has half as many items.
-const MOST_STEPS: u64 = 4_611_686_018_427_387_904;
-
-/// Whether the director can take the item.
-fn is_in_range(item: &Item) -> bool
-    ensures { result ≡ true → IsInRange item.now }
-{
-    match item {
-        Item::Tick(moment) => *moment <= LAST_MOMENT,
-        Item::Incoming { .. } => true,
-        Item::Outgoing { .. } => true,
-        Item::Edit(_) => true,
-        Item::Set(_) => true,
-        Item::Learn { .. } => true,
-        Item::BadSync(_) => true,
-        Item::Sweep(_) => true,
-        Item::Reap => true,
-        Item::SendSync => true,
-    }
-}
-
-/// The director of `serial`, with one bucket.
+/// The director of `serial`, with one bucket. A contract sees its state and how many steps it has
+/// taken.
 #[derive(Drop)]
 pub(crate) struct Director {
     flat: Flat,
 }
 
+impl Model for Director {
+    ghost use Rattle.lvs_run.specs.Seen.{DirectorSeen};
+
+    ghost Value = { DirectorSeen };
+
+    ghost view = { λ d. record { state = d.flat.state; steps = d.flat.steps } };
+}
+
 impl Director {
     /// A director with nothing in it.
-    pub(crate) fn new(alloc: Global, local: Addr) -> Result<Director, NoMemory> {
+    pub(crate) fn new(alloc: Global, local: Addr) -> Result<Director, NoMemory>
+        ensures state { IfOk result (λ d. d.state ≡ initial local 1) }
+        ensures steps { IfOk result (λ d. d.steps ≡ 0) }
+    {
         Ok(Director {
             flat: Flat::new(alloc, local, 1)?,
         })
     }
 
-    /// Takes an item. Scripts name no item that the director can't take.
-    pub(crate) fn step(&mut self, item: &Item) -> Result<Reply, NoMemory> {
-        if self.flat.steps() < MOST_STEPS && is_in_range(item) {
-            self.flat.step(item)
-        } else {
-            Err(NoMemory)
+    /// Takes an item. Scripts name no item that the director can't take, and no script has so many
+    /// that it couldn't count them.
+    pub(crate) fn step(&mut self, item: &Item) -> Result<Reply, NoMemory>
+        requires in_range { IsInRange item.now }
+        requires young { self.old.steps < 2 ^ 62 }
+        ensures ok { IfOk result (λ reply. (reply, self.new.state) ≡ step self.old.state item.now) }
+        ensures steps { OnOk result (self.new.steps ≡ self.old.steps + 1) }
+    {
+        self.flat.step(item)
+    }
+
+    /// The listings of a round, of the director as it is now.
+    pub(crate) fn show(&self, alloc: Global, round: &Round) -> Result<Listed<ShownText>, NoMemory>
+        ensures { IfOk result (λ shown. shown ≡ shown_of self.now.state (listings_of round.now)) }
+    {
+        if !has_listing(round) {
+            return Ok(Listed::new(alloc));
         }
+        let tables = self.flat.snapshot()?;
+        let shown = show_lines(alloc, &tables, round.lines.as_slice())?;
+        Ok(Listed::from_vec(shown))
     }
 }

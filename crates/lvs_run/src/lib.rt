@@ -4,7 +4,7 @@
 mod director;
 mod done;
 mod input;
-mod playable;
+mod listed;
 mod played;
 mod program_words;
 mod round;

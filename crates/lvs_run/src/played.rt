@@ -1,20 +1,25 @@
 //! Round after round, each written when it is done.
-ghost use Rattle.std.specs.Prelude.{◌≡◌, ◌≢◌, ◌+◌, []};
+ghost use Rattle.std.specs.Prelude.{◌≡◌, ◌≢◌, ◌+◌, ◌≤◌, ◌^◌, [], length, Result, Ok};
 ghost use Rattle.std.specs.Io.KnownBytes.{Appends};
 ghost use Rattle.lvs_outside.specs.Faults.{Rose};
+ghost use Rattle.lvs_types.specs.declared.script.Script.{Script};
+ghost use Rattle.lvs_model.specs.State.{State};
 ghost use Rattle.lvs_model.specs.Report.{books_text};
+ghost use Rattle.lvs_model.specs.Scripts.{script_of};
 ghost use Rattle.lvs_run.specs.Written.{AppendsAllButLast, AppendsPart};
 ghost use Rattle.lvs_run.specs.Rounds.{IsAfterInput};
+ghost use Rattle.lvs_run.specs.Limits.{AreMoments, IsWithinLimits, steps_in};
+ghost use Rattle.lvs_run.specs.SerialBooks.{ArePlayed};
+ghost use Rattle.lvs_run.specs.Answers.{IsAnswer};
 
 use crate::Done;
 use crate::director::Director;
 use crate::done::without_rounds;
-use crate::playable::is_playable;
 use crate::round::play_round;
 use crate::written::{Wrote, write_round};
 use lvs_outside::Sink;
 use lvs_script::{ScriptRefused, read_script};
-use lvs_types::{Round, Script, ScriptCause, Status};
+use lvs_types::{Round, Script, Status};
 use std::alloc::Global;
 
 /// Plays the rounds one after the other.
@@ -24,6 +29,10 @@ fn play_rounds<K: Sink>(
     rounds: &[Round],
     sink: &mut K,
 ) -> Done
+    requires moments { AreMoments rounds.now }
+    requires young { director.old.steps + steps_in rounds.now ≤ 2 ^ 62 }
+    ensures played { (left : State) × ArePlayed 0 director.old.state rounds.now result.rounds.items left }
+    ensures all { result.status ≡ Status.Finished → length result.rounds.items ≡ length rounds.now }
     ensures finished { result.status ≡ Status.Finished → Appends (K.written sink.old) (K.written sink.new) (books_text result.rounds.items) }
     ensures write_fault { result.status ≡ Status.WriteFault → AppendsAllButLast (K.written sink.old) (K.written sink.new) result.rounds.items }
     ensures no_memory { result.status ≡ Status.NoMemory → AppendsPart (K.written sink.old) (K.written sink.new) (books_text result.rounds.items) }
@@ -66,14 +75,9 @@ fn play_rounds<K: Sink>(
     }
 }
 
-/// A script that can't be played so far.
-const UNKNOWN: Status = Status::ScriptRefused {
-    line: 0,
-    cause: ScriptCause::UnknownLine,
-};
-
 /// Plays the script that the bytes spell, from its start.
 pub(crate) fn play_bytes<K: Sink>(alloc: Global, bytes: &[u8], sink: &mut K) -> Done
+    ensures answer { IsAnswer (script_of bytes.now) result.status result.rounds.items }
     ensures finished { result.status ≡ Status.Finished → Appends (K.written sink.old) (K.written sink.new) (books_text result.rounds.items) }
     ensures write_fault { result.status ≡ Status.WriteFault → AppendsAllButLast (K.written sink.old) (K.written sink.new) result.rounds.items }
     ensures no_memory { result.status ≡ Status.NoMemory → AppendsPart (K.written sink.old) (K.written sink.new) (books_text result.rounds.items) }
@@ -83,8 +87,7 @@ pub(crate) fn play_bytes<K: Sink>(alloc: Global, bytes: &[u8], sink: &mut K) -> 
     ensures after { IsAfterInput result.status }
 {
     match read_script(alloc, bytes) {
-        Ok(script) if is_playable(&script) => play_script(alloc, &script, sink),
-        Ok(_) => without_rounds(alloc, UNKNOWN),
+        Ok(script) => play_script(alloc, &script, sink),
         Err(ScriptRefused::Refused { line, cause }) => {
             without_rounds(alloc, Status::ScriptRefused { line, cause })
         }
@@ -94,6 +97,8 @@ pub(crate) fn play_bytes<K: Sink>(alloc: Global, bytes: &[u8], sink: &mut K) -> 
 
 /// Plays a script from its start.
 fn play_script<K: Sink>(alloc: Global, script: &Script, sink: &mut K) -> Done
+    requires within { IsWithinLimits script.now.rounds }
+    ensures answer { IsAnswer (Ok script.now) result.status result.rounds.items }
     ensures finished { result.status ≡ Status.Finished → Appends (K.written sink.old) (K.written sink.new) (books_text result.rounds.items) }
     ensures write_fault { result.status ≡ Status.WriteFault → AppendsAllButLast (K.written sink.old) (K.written sink.new) result.rounds.items }
     ensures no_memory { result.status ≡ Status.NoMemory → AppendsPart (K.written sink.old) (K.written sink.new) (books_text result.rounds.items) }

@@ -1,7 +1,10 @@
 //! One round of `serial`.
-ghost use Rattle.std.specs.Prelude.{◌≡◌, ◌++◌, ◌<◌, map, length, vec_len, vec_capacity, IfOk};
-ghost use Rattle.lvs_model.specs.Books.{placed_of};
-ghost use Rattle.lvs_run.specs.Rounds.{IsHeadOf};
+ghost use Rattle.std.specs.Prelude.{◌≡◌, ◌+◌, ◌≤◌, ◌^◌, map, length, IfOk, OnOk};
+ghost use Rattle.lvs_model.specs.Step.{AreInRange};
+ghost use Rattle.lvs_model.specs.Plans.{items_of_lines};
+ghost use Rattle.lvs_model.specs.Books.{IsRun, placed_of};
+ghost use Rattle.lvs_run.specs.Limits.{items_placed};
+ghost use Rattle.lvs_run.specs.SerialBooks.{IsPlayed};
 
 use crate::director::Director;
 use lvs_script::serial_items;
@@ -14,7 +17,11 @@ fn play_items(
     director: &mut Director,
     items: Vec<Placed>,
 ) -> Result<Vec<Noted>, NoMemory>
-    ensures { IfOk result (λ acts. map placed_of acts.items ≡ items.items) }
+    requires in_range { AreInRange (items_placed items.items) }
+    requires young { director.old.steps + length items.items ≤ 2 ^ 62 }
+    ensures placed { IfOk result (λ acts. map placed_of acts.items ≡ items.items) }
+    ensures run { IfOk result (λ acts. IsRun director.old.state acts.items director.new.state) }
+    ensures steps { OnOk result (director.new.steps ≡ director.old.steps + length items.items) }
 {
     let mut acts = Vec::new(alloc);
     for placed in items {
@@ -35,14 +42,17 @@ fn play_items(
     Ok(acts)
 }
 
-/// Plays a round: its moment, and then its items in the one order of `serial`.
+/// Plays a round: its moment, then its items in the one order of `serial`, and then its listings.
 pub(crate) fn play_round(
     alloc: Global,
     director: &mut Director,
     number: u64,
     round: &Round,
 ) -> Result<RoundBook, NoMemory>
-    ensures { IfOk result (λ book. IsHeadOf number round.now book) }
+    requires moment { round.now.moment ≤ 4294967295 }
+    requires young { director.old.steps + length (items_of_lines round.now) + 4 ≤ 2 ^ 62 }
+    ensures book { IfOk result (λ book. IsPlayed number round.now director.old.state book director.new.state) }
+    ensures steps { OnOk result (director.new.steps ≡ director.old.steps + length (items_of_lines round.now) + 4) }
 {
     director.step(&Item::Tick(round.moment))?;
     let items = serial_items(alloc, round)?;
@@ -53,6 +63,6 @@ pub(crate) fn play_round(
         workers: 1,
         buckets: 1,
         acts: Listed::from_vec(acts),
-        shown: Listed::new(alloc),
+        shown: director.show(alloc, round)?,
     })
 }

@@ -1,9 +1,15 @@
 //! `serial`: a script in one order, on one thread.
-ghost use Rattle.std.specs.Prelude.{◌≡◌, ◌≢◌, ◌≤◌, ◌+◌, ◌↔◌, ℕ, List, [], map, length, Some, string_bytes};
+ghost use Rattle.std.specs.Prelude.{◌≡◌, ◌≢◌, ◌≤◌, ◌+◌, ◌↔◌, ◌⊎◌, ℕ, List, [], map, length, Some, None, Ok, Err, string_bytes};
 ghost use Rattle.std.specs.Io.KnownBytes.{Appends, Consumes, IsAtEnd};
 ghost use Rattle.lvs_outside.specs.Faults.{Rose};
+ghost use Rattle.lvs_types.specs.declared.script.Script.{Script};
+ghost use Rattle.lvs_types.specs.declared.script.ScriptCause.{ScriptCause};
+ghost use Rattle.lvs_model.specs.declared.script.BadLine.{BadLine};
 ghost use Rattle.lvs_model.specs.Report.{books_text};
+ghost use Rattle.lvs_model.specs.Scripts.{script_of};
 ghost use Rattle.lvs_run.specs.Words.{refused_word};
+ghost use Rattle.lvs_run.specs.SerialBooks.{AreBooksOfSource};
+ghost use Rattle.lvs_run.specs.Answers.{IsOfSerial};
 ghost use Rattle.lvs_run.specs.Written.{AppendsAllButLast, AppendsPart};
 
 use crate::Done;
@@ -26,8 +32,12 @@ pub fn serve_serial<S: Source, K: Sink>(
     source: &mut S,
     sink: &mut K,
 ) -> Done
-    ensures read { result.status ≡ Status.Finished → (bytes : List ℕ) × Consumes (S.left source.old) (S.left source.new) bytes × IsAtEnd (S.left source.new) }
-    ensures written { result.status ≡ Status.Finished → Appends (K.written sink.old) (K.written sink.new) (books_text result.rounds.items) }
+    ensures headline { result.status ≡ Status.Finished → (bytes : List ℕ) × (script : Script) × AreBooksOfSource (S.left source.old) (S.left source.new) bytes script result.rounds.items × (length result.rounds.items ≡ length script.rounds) × Appends (K.written sink.old) (K.written sink.new) (books_text result.rounds.items) }
+    ensures first { result.rounds.items ≢ [] → (bytes : List ℕ) × (script : Script) × AreBooksOfSource (S.left source.old) (S.left source.new) bytes script result.rounds.items }
+    ensures script_refused { (line : ℕ) (cause : ScriptCause) → result.status ≡ Status.ScriptRefused line cause → (bytes : List ℕ) × Consumes (S.left source.old) (S.left source.new) bytes × IsAtEnd (S.left source.new) × (script_of bytes ≡ Err (record { line = line; cause = cause })) }
+    ensures complete { (bytes : List ℕ) (script : Script) → refused_word (map string_bytes words.now) ≡ None → S.left source.old ≡ Some bytes → length bytes ≤ MAX_INPUT → script_of bytes ≡ Ok script → (Rose (S.faults source.old) (S.faults source.new) → ⊥) → (Rose (K.faults sink.old) (K.faults sink.new) → ⊥) → (result.status ≡ Status.Finished) ⊎ (result.status ≡ Status.NoMemory) }
+    ensures refused_too { (bytes : List ℕ) (bad : BadLine) → refused_word (map string_bytes words.now) ≡ None → S.left source.old ≡ Some bytes → length bytes ≤ MAX_INPUT → script_of bytes ≡ Err bad → (Rose (S.faults source.old) (S.faults source.new) → ⊥) → (result.status ≡ Status.ScriptRefused bad.line bad.cause) ⊎ (result.status ≡ Status.NoMemory) }
+    ensures only { IsOfSerial result.status }
     ensures write_fault { result.status ≡ Status.WriteFault → AppendsAllButLast (K.written sink.old) (K.written sink.new) result.rounds.items }
     ensures no_memory { result.status ≡ Status.NoMemory → AppendsPart (K.written sink.old) (K.written sink.new) (books_text result.rounds.items) }
     ensures refused { result.status ≢ Status.Finished → result.status ≢ Status.WriteFault → result.status ≢ Status.NoMemory → (K.written sink.new ≡ K.written sink.old) × (result.rounds.items ≡ []) }

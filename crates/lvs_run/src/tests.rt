@@ -102,14 +102,23 @@ fn words_and_scripts_are_refused(rt: HostRuntime) -> Result<(), Fail> {
             cause: ScriptCause::UnknownLine,
         }
     );
-    let unplayed = served(alloc, &["serial"], b"at 0\nlist\n", &[], &[])?;
-    assert_eq!(rt;
-        unplayed.status,
-        Status::ScriptRefused {
-            line: 0,
-            cause: ScriptCause::UnknownLine,
-        }
-    );
+    Ok(())
+}
+
+/// A listing in the middle of a round, and two at its end.
+const LISTED: &[u8] =
+    b"at 0\nlist\nipvs -A -t 10.0.0.1:80 -s rr\nconns\nipvs -a -t 10.0.0.1:80 -r 192.168.0.1 -g\nsave\n";
+
+/// All three stand behind the acts, and show what these left.
+const LISTINGS: &[u8] =
+    b"round 0 at 0 workers 1 buckets 1\n2 1.0 ok\n3 1.1 ok\nlist\nTCP 10.0.0.1:80 rr\n  -> 192.168.0.1:80 Route 1 0 0\nend\nconns\nend\nsave\n-A -t 10.0.0.1:80 -s rr\n-a -t 10.0.0.1:80 -r 192.168.0.1:80 -g -w 1\nend\n";
+
+#[test]
+fn listings_show_what_the_round_left(rt: HostRuntime) -> Result<(), Fail> {
+    let run = served(rt.alloc(), &["serial"], LISTED, &[], &[])?;
+    assert_eq!(rt; run.status, Status::Finished);
+    assert_eq!(rt; run.rounds, 1);
+    assert_eq!(rt; run.text.as_slice(), LISTINGS);
     Ok(())
 }
 

@@ -1,19 +1,34 @@
+use Rattle.std.proofs.Common.{◌≡◌, List, [], ◌∷◌, ◌++◌, length, ◌∙◌, ap, subst, length-append, arith}
+use Rattle.lvs_types.specs.declared.book.RoundBook.{RoundBook}
 use Rattle.lvs_model.specs.Report.{books_text}
-use Rattle.std.proofs.Common.{◌∙◌}
+use Rattle.lvs_run.specs.Limits.{AreMoments, steps_in}
 use Rattle.lvs_run.proofs.Books.{all_but_last, appends_book, part_whole, part_without_last}
+use Rattle.lvs_run.proofs.Runs.{next_round, played_on}
 use Rattle.lvs_run.proofs.played.play_rounds.Goals as goal
+
+pub returns-then-is_err-clause-played : goal.returns-then-is_err-clause-played
+returns-then-is_err-clause-played g c = (c.loop-round.director.state, rw c.reserve.ensures.items c.loop-round.invariant.played)
 
 pub returns-then-is_err-clause-no_memory : goal.returns-then-is_err-clause-no_memory
 returns-then-is_err-clause-no_memory g c =
     rw c.reserve.ensures.items (λ _. part_whole (g.K.Sink.written c.args.sink.now) (g.K.Sink.written c.loop-round.sink) (books_text c.loop-round.books.items) c.loop-round.invariant.written)
 
+pub returns-in_default-clause-played : goal.returns-in_default-clause-played
+returns-in_default-clause-played g c = (c.loop-round.director.state, rw c.reserve.ensures.items c.loop-round.invariant.played)
+
 pub returns-in_default-clause-no_memory : goal.returns-in_default-clause-no_memory
 returns-in_default-clause-no_memory g c =
     rw c.reserve.ensures.items (λ _. part_whole (g.K.Sink.written c.args.sink.now) (g.K.Sink.written c.loop-round.sink) (books_text c.loop-round.books.items) c.loop-round.invariant.written)
 
+pub returns-in-Front-clause-played : goal.returns-in-Front-clause-played
+returns-in-Front-clause-played g c = (c.play_round.new.director.state, played_on c.args.director.now.state c.args.rounds.now c.loop-round.books.items c.push_reserved.new.self.items c.loop-round.round-index c.len.result c.round-item.result c.in-Ok.book c.loop-round.director.state c.play_round.new.director.state c.loop-round.invariant.played c.loop-round.invariant.count (next_round c.args.rounds.now c.loop-round.round-index c.round-item.result c.loop-round-test.true c.round-item.is) (omega (arith, c.len.ensures, c.reserve.new.self.ok.0, ap length c.reserve.ensures.items, c.loop-round.invariant.count)) (c.push_reserved.ensures.items ∙ ap (λ (l : List RoundBook). l ++ c.in-Ok.book ∷ []) c.reserve.ensures.items) c.in-Ok.ensures.book)
+
 pub returns-in-Front-clause-write_fault : goal.returns-in-Front-clause-write_fault
 returns-in-Front-clause-write_fault g c =
     rw (c.push_reserved.ensures.items, c.reserve.ensures.items) (λ _. all_but_last (g.K.Sink.written c.args.sink.now) (g.K.Sink.written c.loop-round.sink) (g.K.Sink.written c.write_round-wrote.new.sink) c.loop-round.books.items c.in-Ok.book c.loop-round.invariant.written c.in-Front.ensures.text)
+
+pub returns-in-NoMemory-clause-played : goal.returns-in-NoMemory-clause-played
+returns-in-NoMemory-clause-played g c = (c.play_round.new.director.state, played_on c.args.director.now.state c.args.rounds.now c.loop-round.books.items c.push_reserved.new.self.items c.loop-round.round-index c.len.result c.round-item.result c.in-Ok.book c.loop-round.director.state c.play_round.new.director.state c.loop-round.invariant.played c.loop-round.invariant.count (next_round c.args.rounds.now c.loop-round.round-index c.round-item.result c.loop-round-test.true c.round-item.is) (omega (arith, c.len.ensures, c.reserve.new.self.ok.0, ap length c.reserve.ensures.items, c.loop-round.invariant.count)) (c.push_reserved.ensures.items ∙ ap (λ (l : List RoundBook). l ++ c.in-Ok.book ∷ []) c.reserve.ensures.items) c.in-Ok.ensures.book)
 
 pub returns-in-NoMemory-clause-no_memory : goal.returns-in-NoMemory-clause-no_memory
 returns-in-NoMemory-clause-no_memory g c =
@@ -23,4 +38,8 @@ pub loop-round-preserved : goal.loop-round-preserved
 loop-round-preserved g c = record {
   written = rw (c.push_reserved.ensures.items, c.reserve.ensures.items) (appends_book (g.K.Sink.written c.args.sink.now) (g.K.Sink.written c.loop-round.sink) (g.K.Sink.written c.write_round-wrote.new.sink) c.loop-round.books.items c.in-Ok.book c.loop-round.invariant.written c.in-All.ensures.text);
   kept = c.in-All.ensures.cause ∙ c.loop-round.invariant.kept;
+  played = played_on c.args.director.now.state c.args.rounds.now c.loop-round.books.items c.push_reserved.new.self.items c.loop-round.round-index c.len.result c.round-item.result c.in-Ok.book c.loop-round.director.state c.play_round.new.director.state c.loop-round.invariant.played c.loop-round.invariant.count (next_round c.args.rounds.now c.loop-round.round-index c.round-item.result c.loop-round-test.true c.round-item.is) (omega (arith, c.len.ensures, c.reserve.new.self.ok.0, ap length c.reserve.ensures.items, c.loop-round.invariant.count)) (c.push_reserved.ensures.items ∙ ap (λ (l : List RoundBook). l ++ c.in-Ok.book ∷ []) c.reserve.ensures.items) c.in-Ok.ensures.book;
+  count = omega (arith, c.loop-round.invariant.count, ap length c.push_reserved.ensures.items, ap length c.reserve.ensures.items, length-append c.reserve.new.self.items (c.in-Ok.book ∷ []));
+  moments = (subst AreMoments (next_round c.args.rounds.now c.loop-round.round-index c.round-item.result c.loop-round-test.true c.round-item.is) c.loop-round.invariant.moments).1;
+  young = omega (arith, c.loop-round.invariant.young, c.in-Ok.ensures.steps, ap steps_in (next_round c.args.rounds.now c.loop-round.round-index c.round-item.result c.loop-round-test.true c.round-item.is));
 }

@@ -1,0 +1,71 @@
+-- A book of `serial` is legal.
+use Rattle.std.proofs.Common.{◌≡◌, ℕ, zero, suc, ◌+◌, ◌<◌, ◌==◌, List, [], ◌∷◌, ◌++◌, Option, Some, None, length, map, refl, sym, ◌∙◌, ap, subst, arith}
+use Rattle.std.specs.List.{slice_get}
+use Rattle.lvs_types.specs.declared.item.Item.{Item}
+use Rattle.lvs_types.specs.declared.book.Noted.{Noted}
+use Rattle.lvs_types.specs.declared.book.RoundBook.{RoundBook}
+use Rattle.lvs_types.specs.declared.script.Round.{Round}
+use Rattle.lvs_model.specs.State.{State}
+use Rattle.lvs_model.specs.Plans.{plan, serial_order, serial_items, items_of_actor, items_of_lines, items_of_worker, listings_of}
+use Rattle.lvs_model.specs.Books.{IsSound, IsWhole, IsSerial, IsRun, at_moment, acts_of, placed_of, AreFrom}
+use Rattle.lvs_model.specs.Legal.{IsLegal, AreLegalBooks}
+use Rattle.lvs_run.specs.SerialBooks.{IsPlayed, ArePlayed, AreSerial}
+use Rattle.lvs_run.proofs.Numbered.{AreAllFrom, numbered}
+use Rattle.lvs_run.proofs.Orders.{order_of_clock, order_of_control, order_of_sync, order_of_worker, order_of_none, items_of_only_worker}
+
+abbrev HasItems : ℕ → List Item → List Noted → Type 0
+HasItems actor items acts = AreAllFrom 0 items (acts_of actor acts)
+
+-- the acts of an actor, where its items in the order of `serial` are these and the plan has them
+has_items : (actor : ℕ) (items planned given : List Item) (round : Round) (acts : List Noted) → map placed_of acts ≡ serial_items round → items_of_actor actor (serial_order round) ≡ items → items ≡ planned → Some planned ≡ Some given → HasItems actor given acts
+has_items actor items planned given round acts order are plans gives =
+    let P : List Item → Type 0 = λ l. HasItems actor l acts in
+    let all : items_of_actor actor (serial_order round) ≡ given = are ∙ plans ∙ cc in
+    subst P all (numbered actor [] (serial_order round) acts order)
+
+has_plan : (round : Round) (acts : List Noted) → map placed_of acts ≡ serial_items round → (actor : ℕ) (items : List Item) → slice_get (plan round 1 1).lists actor ≡ Some items → HasItems actor items acts
+has_plan round acts order zero items gives = has_items 0 _ _ items round acts order (order_of_clock round) refl gives
+has_plan round acts order (suc zero) items gives = has_items 1 _ _ items round acts order (order_of_control round) refl gives
+has_plan round acts order (suc (suc zero)) items gives = has_items 2 _ _ items round acts order (order_of_sync round) refl gives
+has_plan round acts order (suc (suc (suc zero))) items gives = has_items 3 _ _ items round acts order (order_of_worker round) (sym (items_of_only_worker (items_of_actor 3 (items_of_lines round)))) gives
+has_plan round acts order (suc (suc (suc (suc more)))) items gives = cc
+
+nothing : (acts : List Noted) (items : List Item) → length acts ≡ length items → items ≡ [] → acts ≡ []
+nothing [] items same none = refl
+nothing (act ∷ acts) [] same none = absurd (omega arith)
+nothing (act ∷ acts) (i ∷ items) same none = cc
+
+has_none : (round : Round) (acts : List Noted) → map placed_of acts ≡ serial_items round → (actor : ℕ) → slice_get (plan round 1 1).lists actor ≡ None → acts_of actor acts ≡ []
+has_none round acts order zero gives = cc
+has_none round acts order (suc zero) gives = cc
+has_none round acts order (suc (suc zero)) gives = cc
+has_none round acts order (suc (suc (suc zero))) gives = cc
+has_none round acts order (suc (suc (suc (suc more)))) gives =
+    let actor : ℕ = suc (suc (suc (suc more))) in
+    nothing (acts_of actor acts) (items_of_actor actor (serial_order round)) (numbered actor [] (serial_order round) acts order).all (order_of_none actor (serial_order round) (omega arith))
+
+pub legal : (number : ℕ) (round : Round) (before : State) (book : RoundBook) (left : State) → IsPlayed number round before book left → IsLegal (at_moment before round.moment) (plan round 1 1) book left
+legal number round before book left is = record {
+  sound = record {
+    moment = is.moment;
+    buckets = is.buckets;
+    workers = omega (arith, is.workers);
+    actors = λ actor items gives. (has_plan round book.acts is.order actor items gives).from;
+    none = has_none round book.acts is.order;
+    replies = is.replies;
+  };
+  whole = λ actor items gives. (has_plan round book.acts is.order actor items gives).all;
+  shown = is.shown;
+}
+
+pub legal_books : (number : ℕ) (s : State) (rounds : List Round) (books : List RoundBook) (left : State) → ArePlayed number s rounds books left → AreLegalBooks 1 1 number s rounds books
+legal_books number s rounds [] left played = tt
+legal_books number s [] (book ∷ books) left played = played
+legal_books number s (round ∷ rounds) (book ∷ books) left played =
+    (played.0, played.1.number_is, legal number round s book played.0 played.1, legal_books (number + 1) played.0 rounds books left played.2)
+
+pub serial_books : (number : ℕ) (s : State) (rounds : List Round) (books : List RoundBook) (left : State) → ArePlayed number s rounds books left → AreSerial rounds books
+serial_books number s rounds [] left played = tt
+serial_books number s [] (book ∷ books) left played = played
+serial_books number s (round ∷ rounds) (book ∷ books) left played =
+    (played.1.order, serial_books (number + 1) played.0 rounds books left played.2)

@@ -1,0 +1,83 @@
+//! The listings of a round.
+ghost use Rattle.std.specs.Prelude.{◌≡◌, IfOk};
+ghost use Rattle.std.specs.List.{list_any, filter_map};
+ghost use Rattle.lvs_model.specs.Plans.{shown_by};
+ghost use Rattle.lvs_model.specs.Listings.{text_of};
+ghost use Rattle.lvs_run.specs.Listed.{is_listing, shown_in, all_shown_in};
+
+use lvs_listing::{list, list_conns, save};
+use lvs_types::{Bytes, NoMemory, Round, ScriptLine, Shown, ShownText, Snapshot};
+use std::alloc::Global;
+
+fn is_listing(line: &ScriptLine) -> bool
+    ensures { result ≡ is_listing line.now }
+{
+    match line {
+        ScriptLine::Show(_) => true,
+        _ => false,
+    }
+}
+
+/// Whether a round asks for a listing.
+pub(crate) fn has_listing(round: &Round) -> bool
+    ensures { result ≡ list_any is_listing round.now.lines }
+{
+    round.lines.as_slice().iter().any(is_listing)
+}
+
+fn copied(alloc: Global, bytes: &Bytes) -> Result<Bytes, NoMemory>
+    ensures { IfOk result (λ copy. copy ≡ bytes.now) }
+{
+    Ok(Bytes::copied(alloc, bytes.as_slice())?)
+}
+
+fn kind_of(alloc: Global, kind: &Shown) -> Result<Shown, NoMemory>
+    ensures { IfOk result (λ copy. copy ≡ kind.now) }
+{
+    Ok(match kind {
+        Shown::List => Shown::List,
+        Shown::Conns => Shown::Conns,
+        Shown::Save => Shown::Save,
+        Shown::IcmpIn(bytes) => Shown::IcmpIn(copied(alloc, bytes)?),
+        Shown::IcmpOut(bytes) => Shown::IcmpOut(copied(alloc, bytes)?),
+    })
+}
+
+/// The lines of a listing. No line of a script asks for an answer to an ICMP error so far.
+fn text_of(alloc: Global, tables: &Snapshot, kind: &Shown) -> Result<Bytes, NoMemory>
+    ensures { IfOk result (λ text. text ≡ text_of tables.entry.now kind.now) }
+{
+    match kind {
+        Shown::List => list(alloc, tables),
+        Shown::Conns => list_conns(alloc, tables),
+        Shown::Save => save(alloc, tables),
+        Shown::IcmpIn(_) | Shown::IcmpOut(_) => Ok(Bytes::new(alloc)),
+    }
+}
+
+/// A listing with its lines.
+fn show(alloc: Global, tables: &Snapshot, kind: &Shown) -> Result<ShownText, NoMemory>
+    ensures { IfOk result (λ shown. shown ≡ shown_in tables.entry.now kind.now) }
+{
+    Ok(ShownText {
+        kind: kind_of(alloc, kind)?,
+        text: text_of(alloc, tables, kind)?,
+    })
+}
+
+/// The listings that lines ask for, in their order.
+pub(crate) fn show_lines(
+    alloc: Global,
+    tables: &Snapshot,
+    lines: &[ScriptLine],
+) -> Result<Vec<ShownText>, NoMemory>
+    ensures { IfOk result (λ shown. shown.items ≡ all_shown_in tables.entry.now (filter_map shown_by lines.now)) }
+{
+    let mut all = Vec::new(alloc);
+    for line in lines {
+        if let ScriptLine::Show(kind) = line {
+            all.push(show(alloc, tables, kind)?)?;
+        }
+    }
+    Ok(all)
+}
