@@ -1,16 +1,14 @@
 -- Entries that pass the tests of a key, of a reply or of an id belong to one chain.
-use Rattle.std.proofs.Common.{◌≡◌, ℕ, Bool, true, false, ◌&&◌, ◌==◌, Option, Some, refl, sym, ◌∙◌, ap, eqb-true}
+use Rattle.std.proofs.Common.{◌≡◌, ℕ, true, ◌&&◌, ◌==◌, Option, Some, refl, sym, ◌∙◌, ap, eqb-true}
 use Rattle.std.proofs.lemmas.Bool.{and_parts}
 use Rattle.lvs_types.specs.declared.addr.Addr.{Addr}
 use Rattle.lvs_types.specs.declared.service.Proto.{Proto}
 use Rattle.lvs_types.specs.declared.service.Proto.TheVariants.{Tcp, Udp}
 use Rattle.lvs_types.specs.declared.service.Method.TheVariants.{Masq}
 use Rattle.lvs_types.specs.declared.entry.Key.{Key}
-use Rattle.lvs_types.specs.declared.entry.Entry.{Entry}
 use Rattle.lvs_model.specs.Same.{proto_eq, method_eq, addr_eq, key_eq}
 use Rattle.lvs_model.specs.Lookups.{has_key, has_entry_id, is_reply_of}
 use Rattle.lvs_entries.specs.Chains.{chain_of, key_chain, is_in_chain}
-use Rattle.lvs_entries.specs.Store.{Belongs}
 use Rattle.lvs_entries.proofs.Chained.{OnlyIn}
 
 proto_same : (a b : Proto) → proto_eq a b ≡ true → a ≡ b

@@ -1,14 +1,13 @@
 -- Each entry belongs to its chain, so those that belong to one chain stand in that chain alone.
-use Rattle.std.proofs.Common.{◌≡◌, ℕ, ◌+◌, ◌<◌, ◌≤◌, Bool, true, false, cond, not, List, [], ◌∷◌, ◌++◌, length, map, Option, Some, refl, sym, ◌∙◌, ap, arith, get_or, set, zero, suc, if◌then◌else◌, append_assoc, append-nil}
+use Rattle.std.proofs.Common.{◌≡◌, ℕ, ◌+◌, ◌<◌, ◌≤◌, Bool, true, false, not, List, [], ◌∷◌, ◌++◌, length, map, Option, Some, refl, sym, ◌∙◌, ap, arith, get_or, set, zero, suc, if◌then◌else◌, append_assoc, append-nil}
 use Rattle.std.specs.List.{AllByRecursion, filter}
 use Rattle.std.proofs.lemmas.List.Elements.{filter-append}
-use Rattle.std.proofs.lemmas.List.{map-append}
 use Rattle.lvs_types.specs.declared.entry.Entry.{Entry}
 use Rattle.lvs_model.specs.Lists.{without}
 use Rattle.lvs_entries.specs.Seen.{ChainSeen}
 use Rattle.lvs_entries.specs.Store.{Belongs, AreChained, all_of}
 use Rattle.lvs_entries.proofs.Order.{all_weaker}
-use Rattle.lvs_entries.proofs.Passing.{filter_none, none_passes, keep_all, change_none}
+use Rattle.lvs_entries.proofs.Passing.{filter_none, keep_all, change_none}
 
 no_pass : (place : ℕ → Option ℕ) (n : ℕ) (p : Entry → Bool) (e : Entry) (b : Bool) → p e ≡ b → Belongs place n e → ((e : Entry) → Belongs place n e → p e ≡ true → ⊥) → p e ≡ false
 no_pass place n p e true is here none = absurd (none e here is)

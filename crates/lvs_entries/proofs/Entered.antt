@@ -1,6 +1,6 @@
 -- A store after an insertion is a store, with the entry at its place.
 use Rattle.std.proofs.Common.{◌≡◌, ℕ, ◌+◌, ◌-◌, ◌<◌, ◌≤◌, Bool, true, false, cond, ◌==◌, List, [], ◌∷◌, ◌++◌, length, Option, Some, None, refl, sym, ◌∙◌, ap, subst, arith, get_or, set, count_by}
-use Rattle.std.specs.List.{AllByRecursion, filter, find}
+use Rattle.std.specs.List.{AllByRecursion, find}
 use Rattle.std.proofs.lemmas.Bool.{eqb-true, eqb-false, eq-eqb}
 use Rattle.std.proofs.lemmas.List.{length-set}
 use Rattle.std.proofs.lemmas.List.Sums.{length-filter}
@@ -10,7 +10,7 @@ use Rattle.lvs_model.specs.Lists.{sorted_by, insert_by}
 use Rattle.lvs_model.specs.Lookups.{has_key, has_entry_id, entry_at}
 use Rattle.lvs_entries.specs.Chains.{key_chain}
 use Rattle.lvs_entries.specs.Seen.{ChainSeen}
-use Rattle.lvs_entries.specs.Store.{Belongs, AreChained, HaveRoom, IsStore, all_of, entries_in}
+use Rattle.lvs_entries.specs.Store.{Belongs, AreChained, IsStore, all_of, entries_in}
 use Rattle.lvs_entries.proofs.Order.{all_weaker, sorted_put}
 use Rattle.lvs_entries.proofs.Listed.{id_of}
 use Rattle.lvs_entries.proofs.Passing.{filter_none, none_found, find_sorted, count_put}

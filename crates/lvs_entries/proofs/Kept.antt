@@ -1,23 +1,19 @@
 -- A store after each change is a store, with the entries that the change says.
-use Rattle.std.proofs.Common.{◌≡◌, ℕ, ◌+◌, ◌-◌, ◌<◌, ◌≤◌, Bool, true, false, cond, not, ◌==◌, List, [], ◌∷◌, ◌++◌, length, map, Option, Some, None, refl, sym, ◌∙◌, ap, subst, arith, get_or, set, count_by, zero, suc, if◌then◌else◌, IsSomeAnd}
-use Rattle.std.specs.List.{AllByRecursion, filter, find}
-use Rattle.std.proofs.lemmas.Bool.{eq-eqb, eqb-true, eqb-false, ne_eqb}
+use Rattle.std.proofs.Common.{◌≡◌, ℕ, ◌<◌, ◌≤◌, Bool, true, false, cond, not, ◌==◌, List, [], ◌∷◌, length, Option, Some, None, refl, sym, ◌∙◌, ap, arith, get_or, set, zero, suc}
+use Rattle.std.specs.List.{AllByRecursion}
+use Rattle.std.proofs.lemmas.Bool.{eqb-true, eqb-false, ne_eqb}
 use Rattle.std.proofs.lemmas.List.{length-set}
-use Rattle.std.proofs.lemmas.List.Sums.{length-filter}
-use Rattle.lvs_types.specs.declared.entry.Key.{Key}
 use Rattle.lvs_types.specs.declared.entry.Entry.{Entry}
-use Rattle.lvs_model.specs.Lists.{without, sorted_by, insert_by, update_first}
-use Rattle.lvs_model.specs.Lookups.{has_key, has_entry_id, entry_at}
-use Rattle.lvs_model.specs.Binding.{put_entry}
-use Rattle.lvs_entries.specs.Chains.{key_chain}
+use Rattle.lvs_model.specs.Lists.{without, sorted_by}
+use Rattle.lvs_model.specs.Lookups.{has_key, has_entry_id}
 use Rattle.lvs_entries.specs.Seen.{ChainSeen}
-use Rattle.lvs_entries.specs.Store.{Belongs, AreChained, HaveRoom, IsStore, all_of, entries_in}
-use Rattle.lvs_entries.proofs.Order.{all_weaker, all_filter, filter_sorted, map_sorted, sorted_put, count_sorted}
-use Rattle.lvs_entries.proofs.Listed.{id_of, ids_once}
-use Rattle.lvs_entries.proofs.Passing.{filter_none, keep_all, none_found, none_counted, find_sorted, find_none, update_is, count_put, count_filter, count_map, found_holds}
-use Rattle.lvs_entries.proofs.Chained.{OnlyIn, IsPut, chain_at, chained_set, chained_moved, without_at, changed, changed_at, put_at, join_front, all_join}
-use Rattle.lvs_entries.proofs.Belonging.{key_same, id_only}
-use Rattle.lvs_entries.proofs.Looking.{look, id_nowhere}
+use Rattle.lvs_entries.specs.Store.{Belongs, HaveRoom, IsStore, all_of, entries_in}
+use Rattle.lvs_entries.proofs.Order.{all_weaker, all_filter, filter_sorted}
+use Rattle.lvs_entries.proofs.Listed.{id_of}
+use Rattle.lvs_entries.proofs.Passing.{keep_all, count_filter}
+use Rattle.lvs_entries.proofs.Chained.{chain_at, chained_set, chained_moved, without_at}
+use Rattle.lvs_entries.proofs.Belonging.{id_only}
+use Rattle.lvs_entries.proofs.Looking.{id_nowhere}
 
 -- ---- room
 

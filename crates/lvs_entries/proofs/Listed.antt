@@ -1,5 +1,5 @@
 -- The entries of a store in order of id.
-use Rattle.std.proofs.Common.{◌≡◌, ℕ, ◌≤◌, arith}
+use Rattle.std.proofs.Common.{ℕ, ◌≤◌}
 use Rattle.lvs_types.specs.declared.entry.Entry.{Entry}
 use Rattle.lvs_model.specs.Lookups.{has_key, has_entry_id}
 use Rattle.lvs_model.specs.Lists.{sorted_by}

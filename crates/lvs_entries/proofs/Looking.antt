@@ -1,5 +1,5 @@
 -- What a look into one chain says of all entries in order of id.
-use Rattle.std.proofs.Common.{◌≡◌, ℕ, ◌+◌, ◌<◌, ◌≤◌, ◌%◌, ◌/◌, Bool, true, false, List, [], length, Option, Some, None, refl, sym, ◌∙◌, ap, arith, get_or, count_by, add-zero, zero-add}
+use Rattle.std.proofs.Common.{◌≡◌, ℕ, ◌<◌, ◌%◌, ◌/◌, Bool, true, false, List, [], length, Option, Some, None, sym, ◌∙◌, ap, arith, get_or, count_by}
 use Rattle.std.specs.List.{AllByRecursion, filter, find}
 use Rattle.std.proofs.lemmas.Bool.{eq-eqb, eqb-true}
 use Rattle.lvs_types.specs.declared.addr.Addr.{Addr}
@@ -8,7 +8,6 @@ use Rattle.lvs_types.specs.declared.entry.Key.{Key}
 use Rattle.lvs_types.specs.declared.entry.Entry.{Entry}
 use Rattle.lvs_model.specs.Same.{proto_code}
 use Rattle.lvs_model.specs.Numbers.{mix}
-use Rattle.lvs_model.specs.Lists.{sorted_by, least_by}
 use Rattle.lvs_model.specs.Lookups.{has_key, has_entry_id, is_reply_of, entry_at, reply_entry}
 use Rattle.lvs_entries.specs.Chains.{chain_of, key_chain, is_in_chain}
 use Rattle.lvs_entries.specs.Seen.{ChainSeen}

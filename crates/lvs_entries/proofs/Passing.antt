@@ -1,10 +1,9 @@
 -- What a test says of a list that none, or at most one, passes.
-use Rattle.std.proofs.Common.{◌≡◌, ℕ, ◌+◌, ◌<◌, ◌≤◌, Bool, true, false, cond, not, List, [], ◌∷◌, ◌++◌, length, map, Option, Some, None, refl, sym, ◌∙◌, ap, subst, arith, count_by, if◌then◌else◌}
+use Rattle.std.proofs.Common.{◌≡◌, ℕ, ◌+◌, ◌≤◌, Bool, true, false, cond, not, List, [], ◌∷◌, ◌++◌, length, map, Option, Some, None, refl, sym, ◌∙◌, ap, subst, arith, count_by, if◌then◌else◌}
 use Rattle.std.specs.List.{AllByRecursion, filter, find}
 use Rattle.std.proofs.lemmas.List.Sums.{sum_by-cons, sum_by-append, length-filter}
-use Rattle.std.proofs.lemmas.List.Elements.{filter-append}
-use Rattle.lvs_model.specs.Lists.{update_first, without, sorted_by, least_by}
-use Rattle.lvs_entries.proofs.Order.{filter_sorted, least_sorted, count_sorted, length_sorted}
+use Rattle.lvs_model.specs.Lists.{update_first, sorted_by, least_by}
+use Rattle.lvs_entries.proofs.Order.{filter_sorted, least_sorted, count_sorted}
 
 -- ---- none passes
 

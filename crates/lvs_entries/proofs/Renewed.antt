@@ -1,12 +1,12 @@
 -- A store after an update is a store, with the entry in the place of the one of its id.
-use Rattle.std.proofs.Common.{◌≡◌, ℕ, ◌+◌, ◌<◌, ◌≤◌, Bool, true, false, cond, ◌==◌, List, [], ◌∷◌, ◌++◌, length, map, Option, Some, None, refl, sym, ◌∙◌, ap, subst, arith, get_or, set, count_by, if◌then◌else◌, IsSomeAnd}
+use Rattle.std.proofs.Common.{◌≡◌, ℕ, ◌+◌, ◌<◌, ◌≤◌, Bool, true, false, cond, ◌==◌, List, [], ◌∷◌, length, Option, Some, None, refl, sym, ◌∙◌, ap, subst, arith, get_or, set, count_by, if◌then◌else◌, IsSomeAnd}
 use Rattle.std.specs.List.{AllByRecursion, filter, find}
 use Rattle.std.proofs.lemmas.Bool.{eqb-true}
 use Rattle.std.proofs.lemmas.List.{length-set}
 use Rattle.std.proofs.lemmas.List.Sums.{length-filter}
 use Rattle.lvs_types.specs.declared.entry.Key.{Key}
 use Rattle.lvs_types.specs.declared.entry.Entry.{Entry}
-use Rattle.lvs_model.specs.Lists.{sorted_by, update_first}
+use Rattle.lvs_model.specs.Lists.{sorted_by}
 use Rattle.lvs_model.specs.Lookups.{has_key, has_entry_id}
 use Rattle.lvs_model.specs.Same.{key_eq}
 use Rattle.lvs_model.specs.Binding.{put_entry}

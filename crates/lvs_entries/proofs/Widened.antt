@@ -1,14 +1,11 @@
 -- A store with more room is a store, with the same entries; so is one of empty chains.
-use Rattle.std.proofs.Common.{◌≡◌, ℕ, ◌+◌, ◌<◌, ◌≤◌, List, [], ◌∷◌, ◌++◌, length, map, Option, Some, None, refl, sym, ◌∙◌, ap, subst, arith, count_by, take, drop, zero, suc, Result, Ok, Err, OnErr}
+use Rattle.std.proofs.Common.{◌≡◌, ℕ, ◌+◌, ◌≤◌, List, [], ◌∷◌, ◌++◌, length, Option, refl, sym, ◌∙◌, ap, subst, arith, take, drop, zero, suc, Result, Ok, Err, OnErr}
 use Rattle.std.proofs.lemmas.List.{length-map}
 use Rattle.std.specs.List.{AllByRecursion}
-use Rattle.lvs_types.specs.declared.entry.Key.{Key}
 use Rattle.lvs_types.specs.declared.entry.Entry.{Entry}
-use Rattle.lvs_model.specs.Lookups.{has_key, has_entry_id}
 use Rattle.lvs_model.specs.Lists.{sorted_by}
 use Rattle.lvs_entries.specs.Seen.{ChainSeen}
 use Rattle.lvs_entries.specs.Store.{Belongs, AreChained, AreEmpty, HaveRoom, IsStore, lists_of, all_of, entries_in}
-use Rattle.lvs_entries.proofs.Order.{all_weaker}
 use Rattle.lvs_entries.proofs.Listed.{id_of}
 use Rattle.lvs_entries.proofs.Chained.{chained_moved}
 

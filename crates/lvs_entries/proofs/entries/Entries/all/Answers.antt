@@ -1,7 +1,7 @@
 use Rattle.std.proofs.Common.{◌≡◌, rules, ◌∙◌, ap}
 use Rattle.std.proofs.lemmas.List.Sorted.{IsNonDecreasingBy-from_sort_by_key}
 use Rattle.lvs_model.specs.Lists.{sorted_by}
-use Rattle.lvs_entries.specs.Seen.{EntriesSeen, AreListed}
+use Rattle.lvs_entries.specs.Seen.{EntriesSeen}
 use Rattle.lvs_entries.specs.Store.{all_of}
 use Rattle.lvs_entries.proofs.Listed.{id_of, are_listed}
 use Rattle.lvs_entries.proofs.Members.{sorted_once}

@@ -1,4 +1,4 @@
-use Rattle.std.proofs.Common.{◌≡◌, ◌∙◌, ap, arith, length, count_by, List}
+use Rattle.std.proofs.Common.{◌∙◌, ap, arith, count_by}
 use Rattle.lvs_model.specs.Lookups.{entry_at}
 use Rattle.lvs_entries.specs.Chains.{key_chain, is_in_chain}
 use Rattle.lvs_entries.specs.Seen.{EntriesSeen}

@@ -1,4 +1,4 @@
-use Rattle.std.proofs.Common.{◌≡◌, ◌∙◌, ap, arith, length, count_by, List}
+use Rattle.std.proofs.Common.{◌∙◌, ap, arith, count_by}
 use Rattle.lvs_model.specs.Lookups.{reply_entry}
 use Rattle.lvs_entries.specs.Chains.{chain_of, is_in_chain}
 use Rattle.lvs_entries.specs.Seen.{EntriesSeen}

@@ -1,4 +1,4 @@
-use Rattle.std.proofs.Common.{◌≡◌, ◌∙◌, ap, sym, Some, None, arith}
+use Rattle.std.proofs.Common.{◌≡◌, ◌∙◌, ap, sym, Some, arith}
 use Rattle.std.specs.List.{find}
 use Rattle.lvs_model.specs.Lookups.{has_entry_id}
 use Rattle.lvs_entries.specs.Seen.{EntriesSeen}

@@ -1,6 +1,6 @@
-use Rattle.std.proofs.Common.{◌≡◌, ◌∙◌, ap, sym, refl, subst, arith, List, length, take, drop, ◌++◌}
+use Rattle.std.proofs.Common.{◌≡◌, ◌∙◌, ap, refl, arith, List, length, take, drop, ◌++◌}
 use Rattle.lvs_entries.specs.Seen.{EntriesSeen, ChainSeen}
-use Rattle.lvs_entries.specs.Store.{place_in, entries_in, lists_of, IsStore}
+use Rattle.lvs_entries.specs.Store.{place_in, entries_in, lists_of}
 use Rattle.lvs_entries.proofs.Widened.{store_widened, entries_same, no_room, whole_back, on_err}
 use Rattle.lvs_entries.proofs.entries.Entries.reserve.Goals as goal
 
