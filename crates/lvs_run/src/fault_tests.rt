@@ -14,13 +14,22 @@ fn each_status_has_its_line(rt: HostRuntime) -> Result<(), Fail> {
             },
             "ipvsd: script refused, line 18446744073709551615: UnknownLine",
         ),
-        (Status::WordsRefused { at: 0 }, "ipvsd: words refused, word 0"),
-        (Status::WordsRefused { at: 12 }, "ipvsd: words refused, word 12"),
+        (
+            Status::WordsRefused { at: 0 },
+            "ipvsd: words refused, word 0",
+        ),
+        (
+            Status::WordsRefused { at: 12 },
+            "ipvsd: words refused, word 12",
+        ),
         (Status::ReadFault, "ipvsd: read fault"),
         (Status::WriteFault, "ipvsd: write fault"),
         (Status::NoMemory, "ipvsd: no memory"),
         (Status::ScriptTooLong, "ipvsd: script too long"),
-        (Status::Illegal(Verdict::Unreadable { line: 6 }), "ipvsd: illegal report"),
+        (
+            Status::Illegal(Verdict::Unreadable { line: 6 }),
+            "ipvsd: illegal report",
+        ),
         (
             Status::CaptureRefused {
                 at: 0,
@@ -50,7 +59,10 @@ fn each_cause_of_a_script_has_its_name(rt: HostRuntime) -> Result<(), Fail> {
         (BadAddress, "ipvsd: script refused, line 2: BadAddress"),
         (BadNumber, "ipvsd: script refused, line 2: BadNumber"),
         (TimeBack, "ipvsd: script refused, line 2: TimeBack"),
-        (TooManyRounds, "ipvsd: script refused, line 2: TooManyRounds"),
+        (
+            TooManyRounds,
+            "ipvsd: script refused, line 2: TooManyRounds",
+        ),
         (BadHex, "ipvsd: script refused, line 2: BadHex"),
         (words, "ipvsd: script refused, line 2: BadWords 2 ZeroPort"),
         (BadSetting, "ipvsd: script refused, line 2: BadSetting"),
@@ -66,14 +78,38 @@ fn each_cause_of_a_script_has_its_name(rt: HostRuntime) -> Result<(), Fail> {
 fn each_cause_of_words_has_its_name(rt: HostRuntime) -> Result<(), Fail> {
     use WordsCause::*;
     for (cause, line) in [
-        (UnknownOption, "ipvsd: script refused, line 1: BadWords 10 UnknownOption"),
-        (Missing, "ipvsd: script refused, line 1: BadWords 10 Missing"),
-        (Repeated, "ipvsd: script refused, line 1: BadWords 10 Repeated"),
-        (BadNumber, "ipvsd: script refused, line 1: BadWords 10 BadNumber"),
-        (BadAddress, "ipvsd: script refused, line 1: BadWords 10 BadAddress"),
-        (BadScheduler, "ipvsd: script refused, line 1: BadWords 10 BadScheduler"),
-        (ZeroPort, "ipvsd: script refused, line 1: BadWords 10 ZeroPort"),
-        (Conflict, "ipvsd: script refused, line 1: BadWords 10 Conflict"),
+        (
+            UnknownOption,
+            "ipvsd: script refused, line 1: BadWords 10 UnknownOption",
+        ),
+        (
+            Missing,
+            "ipvsd: script refused, line 1: BadWords 10 Missing",
+        ),
+        (
+            Repeated,
+            "ipvsd: script refused, line 1: BadWords 10 Repeated",
+        ),
+        (
+            BadNumber,
+            "ipvsd: script refused, line 1: BadWords 10 BadNumber",
+        ),
+        (
+            BadAddress,
+            "ipvsd: script refused, line 1: BadWords 10 BadAddress",
+        ),
+        (
+            BadScheduler,
+            "ipvsd: script refused, line 1: BadWords 10 BadScheduler",
+        ),
+        (
+            ZeroPort,
+            "ipvsd: script refused, line 1: BadWords 10 ZeroPort",
+        ),
+        (
+            Conflict,
+            "ipvsd: script refused, line 1: BadWords 10 Conflict",
+        ),
         (Extra, "ipvsd: script refused, line 1: BadWords 10 Extra"),
     ] {
         let cause = ScriptCause::BadWords { at: 10, cause };
@@ -92,8 +128,14 @@ fn each_cause_of_a_capture_has_its_name(rt: HostRuntime) -> Result<(), Fail> {
         (Version, "ipvsd: capture refused, record 3: Version"),
         (Link, "ipvsd: capture refused, record 3: Link"),
         (RecordShort, "ipvsd: capture refused, record 3: RecordShort"),
-        (TooManyRounds, "ipvsd: capture refused, record 3: TooManyRounds"),
-        (TooManyItems, "ipvsd: capture refused, record 3: TooManyItems"),
+        (
+            TooManyRounds,
+            "ipvsd: capture refused, record 3: TooManyRounds",
+        ),
+        (
+            TooManyItems,
+            "ipvsd: capture refused, record 3: TooManyItems",
+        ),
     ] {
         let told = fault_line(rt.alloc(), &Status::CaptureRefused { at: 3, cause })?;
         assert_eq!(rt; told.as_str(), line);
