@@ -1,3 +1,5 @@
 pub mod Splits
 pub mod LineLemmas
 pub mod Numbered
+pub mod Numbers
+pub mod Planned

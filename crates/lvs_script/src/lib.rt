@@ -1,9 +1,14 @@
 //! Reads scripts, and says what their rounds are to do.
 #![tactic(auto)]
 
+mod actors;
 mod counting;
 mod cutting;
+mod generator;
+mod items;
 mod kinds;
+mod packets;
+mod planner;
 mod reader;
 mod round_lines;
 mod script;
@@ -13,6 +18,8 @@ mod stop;
 mod tests;
 mod values;
 
+pub use generator::generate;
+pub use planner::plan;
 pub use script::read_script;
 pub use serial::serial_items;
 pub use stop::ScriptRefused;

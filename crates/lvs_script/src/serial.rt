@@ -1,11 +1,9 @@
 //! The items of a round in the one order of `serial`.
-ghost use Rattle.std.specs.Prelude.{◌≡◌, ℕ, List, [], ◌∷◌, ◌++◌, map, flat_map, ◌≤◌, IfOk, OnOk, OnErr};
-ghost use Rattle.lvs_types.specs.declared.item.Item.TheVariants as item;
-ghost use Rattle.lvs_model.specs.MessageReading.{read_sync};
-ghost use Rattle.lvs_model.specs.Plans.{items_of_message, items_of_line, items_of_lines, actor_of, items_of_actor, serial_order, placed_after, serial_items};
+ghost use Rattle.std.specs.Prelude.{◌≡◌, [], ◌∷◌, ◌++◌, ◌≤◌, IfOk, OnOk, OnErr};
+ghost use Rattle.lvs_model.specs.Plans.{actor_of, placed_after, serial_items};
 
-use lvs_sync_codec::{MessageRefused, read_message};
-use lvs_types::{Bytes, Item, NoMemory, Placed, Round, ScriptLine, SyncItem};
+use crate::items::items_of_lines;
+use lvs_types::{Item, NoMemory, Placed, Round};
 use std::alloc::Global;
 use std::marker::Model;
 
@@ -96,54 +94,12 @@ impl Placer {
         Ok(())
     }
 
-    /// One item for each record of a message.
-    fn place_records(&mut self, sync_id: u8, items: &[SyncItem]) -> Result<(), NoMemory>
-        ensures { OnOk result (self.new ≡ self.old ++ map (λ r. item.Learn sync_id r) items.now) }
+    /// The next items.
+    fn place_all(&mut self, items: Vec<Item>) -> Result<(), NoMemory>
+        ensures { OnOk result (self.new ≡ self.old ++ items.items) }
     {
         for item in items {
-            let item = *item;
-            self.place(Item::Learn { sync_id, item })?;
-        }
-        Ok(())
-    }
-
-    /// The items of a sync message: one for each record, or one where it can't be read.
-    fn place_message(&mut self, alloc: Global, bytes: &Bytes) -> Result<(), NoMemory>
-        ensures { OnOk result (self.new ≡ self.old ++ items_of_message (read_sync bytes.now)) }
-    {
-        match read_message(alloc, bytes.as_slice()) {
-            Err(MessageRefused::Bad(cause)) => self.place(Item::BadSync(cause)),
-            Err(MessageRefused::NoMemory) => Err(NoMemory),
-            Ok(message) => self.place_records(message.sync_id, message.items.as_slice()),
-        }
-    }
-
-    /// The items of a line; a listing has none.
-    fn place_line(&mut self, alloc: Global, line: &ScriptLine) -> Result<(), NoMemory>
-        ensures { OnOk result (self.new ≡ self.old ++ items_of_line line.now) }
-    {
-        match line {
-            ScriptLine::Incoming { mark, bytes } => {
-                let bytes = copied(alloc, bytes)?;
-                self.place(Item::Incoming { mark: *mark, bytes })
-            }
-            ScriptLine::Outgoing(bytes) => {
-                let bytes = copied(alloc, bytes)?;
-                self.place(Item::Outgoing { bytes })
-            }
-            ScriptLine::Edit(command) => self.place(Item::Edit(*command)),
-            ScriptLine::Set(setting) => self.place(Item::Set(*setting)),
-            ScriptLine::Sync(bytes) => self.place_message(alloc, bytes),
-            ScriptLine::Show(_) => Ok(()),
-        }
-    }
-
-    /// The items of all lines.
-    fn place_lines(&mut self, alloc: Global, lines: &[ScriptLine]) -> Result<(), NoMemory>
-        ensures { OnOk result (self.new ≡ self.old ++ flat_map items_of_line lines.now) }
-    {
-        for line in lines {
-            self.place_line(alloc, line)?;
+            self.place(item)?;
         }
         Ok(())
     }
@@ -155,12 +111,6 @@ impl Placer {
     }
 }
 
-fn copied(alloc: Global, bytes: &Bytes) -> Result<Bytes, NoMemory>
-    ensures { IfOk result (λ copy. copy ≡ bytes.now) }
-{
-    Ok(Bytes::copied(alloc, bytes.as_slice())?)
-}
-
 /// The items of a round in the one order of `serial`: the sweep of its bucket, the reaping, the
 /// lines in their order, and the sending. Each has its actor and its number in the actor's list.
 pub fn serial_items(alloc: Global, round: &Round) -> Result<Vec<Placed>, NoMemory>
@@ -169,7 +119,7 @@ pub fn serial_items(alloc: Global, round: &Round) -> Result<Vec<Placed>, NoMemor
     let mut placer = Placer::new(alloc);
     placer.place(Item::Sweep(0))?;
     placer.place(Item::Reap)?;
-    placer.place_lines(alloc, round.lines.as_slice())?;
+    placer.place_all(items_of_lines(alloc, round.lines.as_slice())?)?;
     placer.place(Item::SendSync)?;
     Ok(placer.finish())
 }
