@@ -8,7 +8,7 @@ use Rattle.lvs_model.specs.Lists.{insert_by, sorted_by}
 use Rattle.lvs_dests.specs.declared.slots.Slot.{Slot}
 use Rattle.lvs_dests.specs.Rows.{has_row_id}
 use Rattle.lvs_dests.specs.Pool.{IsIndex, rows_in, id_in, AreApart}
-use Rattle.lvs_dests.proofs.Tests.{tested, decide_id, apart_ids}
+use Rattle.lvs_dests.proofs.Same.{tested, decide_id, apart_ids}
 use Rattle.lvs_dests.proofs.Index.{index_one}
 use Rattle.lvs_dests.proofs.Sorted.{all_sorted, any_sorted}
 use Rattle.lvs_dests.proofs.Occupied.{held_by, at_key, held_all, held_any}

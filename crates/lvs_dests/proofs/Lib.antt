@@ -1,4 +1,4 @@
-pub mod Tests
+pub mod Same
 pub mod Index
 pub mod Sorted
 pub mod Occupied

@@ -15,7 +15,7 @@ use Rattle.lvs_dests.specs.Rows.{has_row_id, row_at, replaced, is_row_of, candid
 use Rattle.lvs_dests.specs.Places.{name_of}
 use Rattle.lvs_dests.specs.Lists.{has_candidate_id, name_same, list_put}
 use Rattle.lvs_dests.specs.Pool.{AreApart}
-use Rattle.lvs_dests.proofs.Tests.{tested, at_true, at_false, id_is, id_own, differ, apart_ids, key_is, key_own, name_same_key}
+use Rattle.lvs_dests.proofs.Same.{tested, at_true, at_false, id_is, id_own, differ, apart_ids, key_is, key_own, name_same_key}
 
 pub neither : (a b : Bool) → (a || b) ≡ false → (a ≡ false) × (b ≡ false)
 neither true b e = absurd (cc)

@@ -16,7 +16,7 @@ use Rattle.lvs_model.specs.Lists.{without}
 use Rattle.lvs_dests.specs.Rows.{has_row_id, row_at, replaced, changed, is_row_at, is_row_of, is_row_revivable, is_known, candidate_of_row, candidates_of, is_row_serving, serving, is_live_row}
 use Rattle.lvs_dests.specs.Places.{name_of, name_eq, place_at, has_place}
 use Rattle.lvs_dests.specs.Pool.{AreApart, IsOneAt}
-use Rattle.lvs_dests.proofs.Tests.{tested, at_true, at_false, name_of_key, id_is, id_own}
+use Rattle.lvs_dests.proofs.Same.{tested, at_true, at_false, name_of_key, id_is, id_own}
 use Rattle.lvs_dests.proofs.Found.{find_nothing, none_passes, find_passes}
 
 and_false : (a b : Bool) → b ≡ false → (a && b) ≡ false

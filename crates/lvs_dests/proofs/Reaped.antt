@@ -12,7 +12,7 @@ use Rattle.lvs_dests.specs.declared.slots.Slot.{Slot}
 use Rattle.lvs_dests.specs.declared.pool.Pool.{Pool}
 use Rattle.lvs_dests.specs.Rows.{has_row_id, row_at, replaced, is_row_released}
 use Rattle.lvs_dests.specs.Pool.{AreApart, IsWhole, rows_of, slot_at, is_over_at, id_in}
-use Rattle.lvs_dests.proofs.Tests.{id_is, id_own}
+use Rattle.lvs_dests.proofs.Same.{id_is, id_own}
 use Rattle.lvs_dests.proofs.Found.{rows_all}
 use Rattle.lvs_dests.proofs.Listed.{IsOnly, only_found, neither}
 use Rattle.lvs_dests.proofs.Narrow.{untouched}

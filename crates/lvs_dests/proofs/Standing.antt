@@ -12,7 +12,7 @@ use Rattle.lvs_dests.specs.Rows.{has_row_id, row_at, replaced, changed, is_row_a
 use Rattle.lvs_dests.specs.Places.{place_at, place_of, has_place}
 use Rattle.lvs_dests.specs.Pool.{AreApart, IsOneAt}
 use Rattle.lvs_dests.specs.Dests.{IsStanding, IsLiveAt}
-use Rattle.lvs_dests.proofs.Tests.{place_is, id_own}
+use Rattle.lvs_dests.proofs.Same.{place_is, id_own}
 use Rattle.lvs_dests.proofs.Found.{find_passes}
 use Rattle.lvs_dests.proofs.Listed.{each_found, only_found}
 use Rattle.lvs_dests.proofs.Narrow.{narrowed, narrowed_none, any_found, of_found, changed_one, row_at_place, revivable_place, AreAll}

@@ -16,7 +16,7 @@ use Rattle.lvs_dests.specs.Places.{name_of}
 use Rattle.lvs_dests.specs.Lists.{has_candidate_id, list_at, list_put}
 use Rattle.lvs_dests.specs.Pool.{IsWhole, rows_of, AreApart}
 use Rattle.lvs_dests.specs.Dests.{IsTied, IsRevision}
-use Rattle.lvs_dests.proofs.Tests.{at_true, at_false, id_is, key_own}
+use Rattle.lvs_dests.proofs.Same.{at_true, at_false, id_is, key_own}
 use Rattle.lvs_dests.proofs.Found.{find_passes}
 use Rattle.lvs_dests.proofs.Whole.{pool_apart}
 use Rattle.lvs_dests.proofs.Listed.{AreServed, shown, only_found, served_replaced, served_still, served_pushed, and_on, and_off, off_and, hidden_by}

@@ -12,7 +12,7 @@ use Rattle.lvs_model.specs.Same.{dest_id_eq}
 use Rattle.lvs_dests.specs.declared.slots.Slot.{Slot}
 use Rattle.lvs_dests.specs.Rows.{has_row_id, is_trashed, IsTrashOf}
 use Rattle.lvs_dests.specs.Pool.{IsIndex, rows_in, id_in, trashed_in, trashed_of}
-use Rattle.lvs_dests.proofs.Tests.{decide_id, apart_ids}
+use Rattle.lvs_dests.proofs.Same.{decide_id, apart_ids}
 use Rattle.lvs_dests.proofs.Index.{index_one}
 use Rattle.lvs_dests.proofs.Occupied.{held_by, at_key}
 use Rattle.lvs_dests.proofs.Found.{SlotsApart, held_apart, rows_any, all_map}

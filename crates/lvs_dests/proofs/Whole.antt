@@ -14,7 +14,7 @@ use Rattle.lvs_dests.specs.declared.pool.Pool.{Pool}
 use Rattle.lvs_dests.specs.Rows.{has_row_id, row_at, replaced}
 use Rattle.lvs_dests.specs.Places.{place_of, has_place}
 use Rattle.lvs_dests.specs.Pool.{Changed, IsIndex, IsWhole, IsSame, rows_in, rows_of, slot_at, key_of_id, key_of_place, id_in, place_in, AreApart, IsOneAt}
-use Rattle.lvs_dests.proofs.Tests.{differ, apart, at_true, at_false, decide_id, decide_place, id_is, id_own, place_is, place_own}
+use Rattle.lvs_dests.proofs.Same.{differ, apart, at_true, at_false, decide_id, decide_place, id_is, id_own, place_is, place_own}
 use Rattle.lvs_dests.proofs.Index.{index_same, index_insert, index_take, index_write}
 use Rattle.lvs_dests.proofs.Occupied.{at_key}
 use Rattle.lvs_dests.proofs.Found.{find_nothing, found_there, only_there, nowhere, are_apart}

@@ -5,7 +5,7 @@ use Rattle.lvs_dests.specs.declared.place.Place.{Place}
 use Rattle.lvs_dests.specs.declared.pool.Pool.{Pool}
 use Rattle.lvs_dests.specs.Rows.{has_row_id, replaced}
 use Rattle.lvs_dests.specs.Pool.{id_same, place_same, key_of_id, key_of_place, slot_at, rows_of, id_in, place_in}
-use Rattle.lvs_dests.proofs.Tests.{id_same_is, id_same_own, place_same_is, place_same_own}
+use Rattle.lvs_dests.proofs.Same.{id_same_is, id_same_own, place_same_is, place_same_own}
 use Rattle.lvs_dests.proofs.Whole.{changed_slab, changed_map, whole_take, pool_take}
 use Rattle.lvs_dests.proofs.pool.Pool.release.Goals as goal
 
