@@ -1,14 +1,14 @@
 -- The due ids of a store, in order.
-use Rattle.std.proofs.Common.{◌≡◌, ℕ, ◌≤◌, ◌+◌, Bool, true, false, cond, ◌==◌, nat_le, List, [], ◌∷◌, map, refl, sym, ◌∙◌, ap, arith, count_by}
+use Rattle.std.proofs.Common.{◌≡◌, ℕ, ◌≤◌, ◌+◌, Bool, true, false, cond, ◌==◌, nat_le, List, [], ◌∷◌, refl, sym, ◌∙◌, ap, arith, count_by}
 use Rattle.std.specs.List.{filter}
 use Rattle.std.specs.List.Sorted.{IsPermutation, IsNonDecreasingBy, IsStrictlyIncreasing}
 use Rattle.std.proofs.lemmas.List.Sums.{sum_by-cons}
 use Rattle.lvs_model.specs.Lists.{sorted_by, insert_by}
-use Rattle.lvs_entries.proofs.Order.{IsUp, filter_sorted, sorted_up, count_sorted}
+use Rattle.lvs_entries.proofs.Order.{filter_sorted, sorted_up, count_sorted}
 use Rattle.lvs_entries.proofs.Members.{sorted_once, strict_from, rising_from}
 use Rattle.lvs_entries.proofs.Passing.{count_filter}
 use Rattle.lvs_timer.specs.declared.timer.Timer.{Timer}
-use Rattle.lvs_timer.specs.Timers.{has_id, is_due, ids_of, AreListed}
+use Rattle.lvs_timer.specs.Timers.{has_id, ids_of, AreListed}
 use Rattle.lvs_timer.specs.Seen.{ShelfSeen}
 use Rattle.lvs_timer.specs.Shelves.{IsStore, all_of, timers_in}
 use Rattle.lvs_timer.proofs.Kept.{id_of}

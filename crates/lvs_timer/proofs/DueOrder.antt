@@ -1,8 +1,7 @@
 -- Due lists: the place of a timer, and what is left of the order by a timer more or less.
-use Rattle.std.proofs.Common.{◌≡◌, ℕ, ◌+◌, ◌<◌, ◌≤◌, Bool, true, false, cond, ◌==◌, ◌||◌, ◌&&◌, not, nat_lt, nat_le, List, [], ◌∷◌, ◌++◌, length, map, take, drop, get_or, None, refl, sym, ◌∙◌, ap, subst, arith, count_by, inl, inr, ◌⊎◌, zero, suc}
+use Rattle.std.proofs.Common.{◌≡◌, ℕ, ◌+◌, ◌<◌, ◌≤◌, Bool, true, false, cond, not, List, [], ◌∷◌, ◌++◌, length, take, drop, get_or, None, refl, sym, ◌∙◌, ap, subst, arith, count_by, inl, inr, ◌⊎◌, zero, suc}
 use Rattle.std.specs.List.{AllByRecursion, AllWithin, filter, find}
-use Rattle.std.specs.List.Sorted.{IsPartitionedBy}
-use Rattle.std.proofs.lemmas.Bool.{leb-false, leb-true, eqb-true, eqb-false, ltb-true, ltb-false, lt-leb, eq-eqb, and_parts, or_cases}
+use Rattle.std.proofs.lemmas.Bool.{leb-false, eqb-false, lt-leb, eq-eqb}
 use Rattle.std.proofs.lemmas.Bool.Decides.{nat_tests}
 use Rattle.std.proofs.lemmas.List.Elements.{filter-append}
 use Rattle.lvs_model.specs.Lists.{without}
@@ -11,7 +10,7 @@ use Rattle.lvs_entries.proofs.Passing.{keep_all, none_counted, none_found, count
 use Rattle.lvs_entries.proofs.Chained.{join_front, join_back}
 use Rattle.lvs_timer.specs.declared.timer.Timer.{Timer}
 use Rattle.lvs_timer.specs.Timers.{is_before, is_due, has_id}
-use Rattle.lvs_timer.specs.Shelves.{IsInOrder, Has, IsEntered}
+use Rattle.lvs_timer.specs.Shelves.{IsInOrder, Has}
 
 pub trans : (t u v : Timer) → is_before t u ≡ true → is_before u v ≡ true → is_before t v ≡ true
 trans t u v one two = grind (arith, nat_tests)

@@ -1,5 +1,5 @@
 -- A store of timers after each change is a store, with the timers that the change says.
-use Rattle.std.proofs.Common.{◌≡◌, ℕ, ◌+◌, ◌-◌, ◌<◌, ◌≤◌, ◌%◌, Bool, true, false, cond, not, ◌==◌, List, [], ◌∷◌, ◌++◌, length, map, Option, Some, None, refl, sym, ◌∙◌, ap, subst, arith, get_or, set, count_by, inl, inr}
+use Rattle.std.proofs.Common.{◌≡◌, ℕ, ◌+◌, ◌-◌, ◌<◌, ◌≤◌, ◌%◌, Bool, true, false, cond, not, List, [], ◌∷◌, ◌++◌, length, Option, Some, None, refl, sym, ◌∙◌, ap, subst, arith, get_or, set, count_by, inl, inr}
 use Rattle.std.specs.List.{AllByRecursion, filter, find}
 use Rattle.std.proofs.lemmas.Bool.{eqb-true, eqb-false}
 use Rattle.std.proofs.lemmas.List.{length-set}
@@ -12,7 +12,7 @@ use Rattle.lvs_entries.proofs.Entered.{put_once}
 use Rattle.lvs_timer.specs.declared.timer.Timer.{Timer}
 use Rattle.lvs_timer.specs.Timers.{has_id}
 use Rattle.lvs_timer.specs.Seen.{ShelfSeen}
-use Rattle.lvs_timer.specs.Shelves.{AreShelved, Has, HaveRoom, IsEntered, IsStore, all_of, timers_in}
+use Rattle.lvs_timer.specs.Shelves.{Has, IsEntered, IsStore, all_of, timers_in}
 use Rattle.lvs_timer.proofs.DueOrder.{all_put}
 use Rattle.lvs_timer.proofs.Shelved.{IsOf, id_only, filter_at, shelf_at, shelved_set, without_at, entered_at}
 use Rattle.lvs_timer.proofs.Widened.{room_write, room_less, room_at}

@@ -1,11 +1,10 @@
 -- Due lists with more room, and due lists without timers.
-use Rattle.std.proofs.Common.{◌≡◌, ℕ, ◌+◌, ◌<◌, ◌≤◌, ◌%◌, List, [], ◌∷◌, ◌++◌, length, map, refl, sym, ◌∙◌, ap, subst, arith, count_by, get_or, set, take, zero, suc}
+use Rattle.std.proofs.Common.{◌≡◌, ℕ, ◌+◌, ◌<◌, ◌≤◌, List, [], ◌∷◌, ◌++◌, length, refl, sym, ◌∙◌, ap, subst, arith, get_or, set, take, zero, suc}
 use Rattle.std.specs.List.{AllByRecursion}
 use Rattle.std.proofs.lemmas.List.{length-map}
 use Rattle.lvs_model.specs.Lists.{sorted_by}
 use Rattle.lvs_entries.proofs.Order.{all_weaker}
 use Rattle.lvs_timer.specs.declared.timer.Timer.{Timer}
-use Rattle.lvs_timer.specs.Timers.{has_id}
 use Rattle.lvs_timer.specs.Seen.{ShelfSeen}
 use Rattle.lvs_timer.specs.Shelves.{AreShelved, AreEmpty, HaveRoom, IsStore, lists_of, all_of, timers_in}
 use Rattle.lvs_timer.proofs.Shelved.{IsOf}

@@ -1,4 +1,4 @@
-use Rattle.std.proofs.Common.{◌≡◌, ◌∙◌, ap, sym, arith, List, length, take, drop, ◌++◌}
+use Rattle.std.proofs.Common.{◌≡◌, ◌∙◌, ap, arith, List, length, take, drop, ◌++◌}
 use Rattle.lvs_entries.proofs.Widened.{whole_back, on_err}
 use Rattle.lvs_timer.specs.Seen.{TimersSeen, ShelfSeen}
 use Rattle.lvs_timer.specs.Shelves.{timers_in, lists_of}
