@@ -1,5 +1,5 @@
 -- One more item in a list of placed items.
-use Rattle.std.proofs.Common.{◌≡◌, ℕ, ◌+◌, ◌==◌, Bool, true, false, cond, List, [], ◌∷◌, ◌++◌, length, map, filter, refl, sym, ◌∙◌, ap, append_assoc, append-nil, length-append, subst, arith}
+use Rattle.std.proofs.Common.{◌≡◌, ℕ, ◌+◌, ◌==◌, Bool, true, false, cond, List, [], ◌∷◌, ◌++◌, length, sym, ◌∙◌, ap, append_assoc, append-nil, length-append, subst, arith}
 use Rattle.lvs_types.specs.declared.item.Item.{Item}
 use Rattle.lvs_types.specs.declared.book.Placed.{Placed}
 use Rattle.lvs_model.specs.Plans.{actor_of, items_of_actor, placed_after}

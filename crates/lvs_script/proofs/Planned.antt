@@ -1,5 +1,5 @@
 -- Items that are placed in the lists of their actors.
-use Rattle.std.proofs.Common.{◌≡◌, ◌≢◌, ◌⊎◌, inl, inr, eqb, ℕ, zero, suc, ◌+◌, ◌==◌, ◌<◌, ◌≤◌, Bool, true, false, cond, List, [], ◌∷◌, ◌++◌, length, map, filter, get_or, Vec, refl, sym, ◌∙◌, ap, append_assoc, append-nil, arith}
+use Rattle.std.proofs.Common.{◌≡◌, ◌≢◌, ◌⊎◌, inl, inr, eqb, ℕ, zero, suc, ◌+◌, ◌==◌, ◌≤◌, Bool, true, false, cond, List, [], ◌∷◌, ◌++◌, length, map, get_or, Vec, refl, sym, ◌∙◌, ap, append_assoc, append-nil, arith}
 use Rattle.std.proofs.lemmas.Bool.{eq-eqb}
 use Rattle.std.proofs.lemmas.Bool.Decides.{eqb_tells}
 use Rattle.std.specs.declared.alloc.Global.{Global}
@@ -9,8 +9,6 @@ use Rattle.std.proofs.lemmas.List.Elements.{filter-append}
 use Rattle.lvs_types.specs.declared.item.Item.{Item}
 use Rattle.lvs_types.specs.declared.item.Item.TheVariants as item
 use Rattle.lvs_model.specs.Plans.{items_of_actor, items_of_worker, worker_of_item, actor_of, numbers_from}
-use Rattle.lvs_script.specs.declared.actors.Actor.{Actor}
-use Rattle.lvs_script.specs.declared.actors.Actor.TheVariants as actor
 use Rattle.lvs_script.specs.Planning.{Lists, actor_among, empty_lists, with_item_at, with_item, with_each, for_worker, with_items}
 use Rattle.lvs_script.proofs.Numbers.{length_numbers}
 

@@ -1,5 +1,5 @@
 -- Cutting at the first byte that passes a test, and splitting at all of them.
-use Rattle.std.proofs.Common.{◌≡◌, ℕ, ◌+◌, ◌<◌, ◌≤◌, Bool, true, false, cond, not, suc, List, [], ◌∷◌, length, Option, Some, None, refl, sym, ◌∙◌, ap, arith, nat_lt}
+use Rattle.std.proofs.Common.{◌≡◌, ℕ, ◌+◌, ◌≤◌, Bool, true, false, cond, not, suc, List, [], ◌∷◌, length, Option, Some, None, refl, sym, ◌∙◌, ap, arith, nat_lt}
 use borrow.Author.Tests.{ltb-true, ltb-false}
 use Rattle.std.specs.List.{position_or_len, before_first, after_first, slice_split, onto_first}
 use Rattle.std.proofs.lemmas.List.Splits.{slice_split_first}

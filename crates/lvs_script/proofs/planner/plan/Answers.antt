@@ -3,7 +3,7 @@ use Rattle.lvs_types.specs.declared.item.Item.{Item}
 use Rattle.lvs_types.specs.declared.book.RoundPlan.{RoundPlan}
 use Rattle.lvs_types.specs.declared.book.Shown.{Shown}
 use Rattle.lvs_types.specs.declared.script.ScriptLine.{ScriptLine}
-use Rattle.lvs_model.specs.Plans.{items_of_line, items_of_lines, shown_by, listings_of, clock_items}
+use Rattle.lvs_model.specs.Plans.{items_of_line, items_of_lines, shown_by, clock_items}
 use Rattle.lvs_model.specs.Plans.{plan as plan_of}
 use Rattle.lvs_script.specs.Planning.{Lists, with_items, empty_lists}
 use Rattle.lvs_script.proofs.Planned.{plan_lists}

@@ -1,4 +1,4 @@
-use Rattle.std.proofs.Common.{◌≡◌, ◌∙◌, sym, ap, List, ℕ, [], ◌∷◌, ◌<◌, ◌==◌, Bool, false, length, Ok, Err, refl, arith, rules}
+use Rattle.std.proofs.Common.{◌≡◌, sym, [], ◌<◌, false, length, Err, refl, arith, rules}
 use Rattle.lvs_model.specs.Lines.{lines_of, without_return}
 use Rattle.lvs_model.specs.Scripts.{take_lines}
 use Rattle.lvs_script.specs.declared.stop.ScriptRefused.TheVariants as refusal
