@@ -1,12 +1,10 @@
 -- What an answer says of the script.
-use Rattle.std.proofs.Common.{◌≡◌, ◌≢◌, ℕ, ◌+◌, ◌≤◌, ◌<◌, ◌⊎◌, inl, inr, List, [], ◌∷◌, ◌++◌, Option, Some, None, Result, Ok, Err, Bool, true, false, cond, not, length, refl, sym, ◌∙◌, ap, subst, append-nil, length-append, arith}
-use Rattle.std.specs.List.{list_any}
+use Rattle.std.proofs.Common.{◌≡◌, ◌≢◌, ℕ, ◌+◌, ◌≤◌, ◌⊎◌, inl, inr, List, [], ◌++◌, Option, Some, None, Result, Ok, Err, length, refl, sym, ◌∙◌, ap, subst, append-nil, length-append, arith}
 use Rattle.std.specs.Io.KnownBytes.{Consumes, IsAtEnd}
 use Rattle.lvs_types.specs.declared.book.RoundBook.{RoundBook}
 use Rattle.lvs_types.specs.declared.script.Script.{Script}
 use Rattle.lvs_types.specs.declared.script.Round.{Round}
 use Rattle.lvs_types.specs.declared.script.ScriptCause.{ScriptCause}
-use Rattle.lvs_types.specs.declared.script.ScriptCause.TheVariants as cause
 use Rattle.lvs_types.specs.declared.status.Status.{Status}
 use Rattle.lvs_types.specs.declared.status.Status.TheVariants as status
 use Rattle.lvs_model.specs.declared.script.BadLine.{BadLine}
@@ -15,7 +13,7 @@ use Rattle.lvs_model.specs.Scripts.{script_of}
 use Rattle.lvs_outside.specs.Faults.{Rose}
 use Rattle.lvs_run.specs.SerialBooks.{AreSerialBooks, AreBooksOfSource, ArePlayed}
 use Rattle.lvs_run.proofs.LegalLemmas.{legal_books, serial_books}
-use Rattle.lvs_run.specs.Answers.{IsAnswer, IsEnd, IsRefusal, IsOfSerial}
+use Rattle.lvs_run.specs.Answers.{IsAnswer, IsEnd, IsOfSerial}
 use Rattle.lvs_run.specs.Rounds.{IsBeforeScript}
 
 -- how rounds that were played end

@@ -1,17 +1,16 @@
 -- The items of a round, their number and their range.
-use Rattle.std.proofs.Common.{◌≡◌, ℕ, ◌+◌, ◌*◌, ◌^◌, ◌≤◌, List, [], ◌∷◌, ◌++◌, Result, Ok, Err, length, map, refl, sym, ◌∙◌, ap, subst, length-append, arith}
+use Rattle.std.proofs.Common.{◌≡◌, ℕ, ◌+◌, ◌*◌, ◌^◌, ◌≤◌, List, [], ◌∷◌, ◌++◌, Result, Ok, Err, length, map, refl, sym, ap, subst, length-append, arith}
 use Rattle.std.specs.List.{flat_map}
 use Rattle.lvs_types.specs.declared.item.Item.{Item}
 use Rattle.lvs_types.specs.declared.item.Item.TheVariants as item
 use Rattle.lvs_types.specs.declared.sync.Message.{Message}
 use Rattle.lvs_types.specs.declared.sync.BadSync.{BadSync}
 use Rattle.lvs_types.specs.declared.sync.SyncItem.{SyncItem}
-use Rattle.lvs_types.specs.declared.book.Placed.{Placed}
 use Rattle.lvs_types.specs.declared.script.Round.{Round}
 use Rattle.lvs_types.specs.declared.script.ScriptLine.{ScriptLine}
 use Rattle.lvs_types.specs.declared.script.ScriptLine.TheVariants as line
 use Rattle.lvs_model.specs.MessageReading.{read_sync}
-use Rattle.lvs_model.specs.Step.{IsInRange, AreInRange}
+use Rattle.lvs_model.specs.Step.{AreInRange}
 use Rattle.lvs_model.specs.Plans.{items_of_message, items_of_line, items_of_lines, serial_order, placed_after, serial_items}
 use Rattle.lvs_run.specs.Limits.{items_placed, items_in, steps_in, IsWithinLimits}
 

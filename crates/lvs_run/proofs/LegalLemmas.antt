@@ -1,13 +1,13 @@
 -- A book of `serial` is legal.
-use Rattle.std.proofs.Common.{◌≡◌, ℕ, zero, suc, ◌+◌, ◌<◌, ◌==◌, List, [], ◌∷◌, ◌++◌, Option, Some, None, length, map, refl, sym, ◌∙◌, ap, subst, arith}
+use Rattle.std.proofs.Common.{◌≡◌, ℕ, zero, suc, ◌+◌, List, [], ◌∷◌, Some, None, length, map, refl, sym, ◌∙◌, subst, arith}
 use Rattle.std.specs.List.{slice_get}
 use Rattle.lvs_types.specs.declared.item.Item.{Item}
 use Rattle.lvs_types.specs.declared.book.Noted.{Noted}
 use Rattle.lvs_types.specs.declared.book.RoundBook.{RoundBook}
 use Rattle.lvs_types.specs.declared.script.Round.{Round}
 use Rattle.lvs_model.specs.State.{State}
-use Rattle.lvs_model.specs.Plans.{plan, serial_order, serial_items, items_of_actor, items_of_lines, items_of_worker, listings_of}
-use Rattle.lvs_model.specs.Books.{IsSound, IsWhole, IsSerial, IsRun, at_moment, acts_of, placed_of, AreFrom}
+use Rattle.lvs_model.specs.Plans.{plan, serial_order, serial_items, items_of_actor, items_of_lines}
+use Rattle.lvs_model.specs.Books.{at_moment, acts_of, placed_of}
 use Rattle.lvs_model.specs.Legal.{IsLegal, AreLegalBooks}
 use Rattle.lvs_run.specs.SerialBooks.{IsPlayed, ArePlayed, AreSerial}
 use Rattle.lvs_run.proofs.Numbered.{AreAllFrom, numbered}

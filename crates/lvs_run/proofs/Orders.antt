@@ -1,5 +1,5 @@
 -- The items of each actor in the order of `serial`.
-use Rattle.std.proofs.Common.{◌≡◌, ◌≢◌, ℕ, zero, suc, ◌+◌, ◌<◌, ◌≤◌, ◌/◌, ◌%◌, ◌^◌, ◌==◌, Bool, true, false, cond, List, [], ◌∷◌, ◌++◌, Option, Some, None, Result, Ok, Err, length, map, filter, refl, sym, ◌∙◌, ap, append_assoc, append-nil, arith}
+use Rattle.std.proofs.Common.{◌≡◌, ℕ, ◌<◌, ◌≤◌, ◌/◌, ◌%◌, ◌^◌, ◌==◌, Bool, false, cond, List, [], ◌∷◌, ◌++◌, Option, Some, None, Result, Ok, Err, map, refl, ◌∙◌, ap, append-nil, arith}
 use Rattle.std.specs.List.{flat_map}
 use Rattle.std.proofs.lemmas.List.Elements.{filter-append}
 use Rattle.std.proofs.lemmas.Bool.{ne_eqb}
@@ -17,7 +17,7 @@ use Rattle.lvs_types.specs.declared.script.ScriptLine.TheVariants as line
 use Rattle.lvs_model.specs.Same.{proto_code}
 use Rattle.lvs_model.specs.Reading.{read}
 use Rattle.lvs_model.specs.MessageReading.{read_sync}
-use Rattle.lvs_model.specs.Numbers.{worker_of, mix}
+use Rattle.lvs_model.specs.Numbers.{mix}
 use Rattle.lvs_model.specs.Packets.{transport_of}
 use Rattle.lvs_model.specs.Plans.{items_of_message, items_of_line, items_of_lines, actor_of, items_of_actor, serial_order, worker_by, worker_at, worker_in, worker_out, worker_of_item, items_of_worker, clock_items}
 

@@ -1,5 +1,5 @@
 -- Rounds without listings.
-use Rattle.std.proofs.Common.{◌≡◌, Bool, true, false, List, [], ◌∷◌, refl}
+use Rattle.std.proofs.Common.{◌≡◌, false, List, [], ◌∷◌, refl}
 use Rattle.std.specs.List.{list_any, filter_map}
 use Rattle.lvs_types.specs.declared.script.ScriptLine.{ScriptLine}
 use Rattle.lvs_types.specs.declared.script.ScriptLine.TheVariants as line

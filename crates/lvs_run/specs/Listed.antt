@@ -1,10 +1,8 @@
 -- The listings of a round, of tables as they are.
 use Rattle.std.specs.Prelude.{List, Bool, true, false, map}
-use Rattle.std.specs.List.{list_any}
 use Rattle.lvs_types.specs.declared.snapshot.Snapshot.{Snapshot}
 use Rattle.lvs_types.specs.declared.book.Shown.{Shown}
 use Rattle.lvs_types.specs.declared.book.ShownText.{ShownText}
-use Rattle.lvs_types.specs.declared.script.Round.{Round}
 use Rattle.lvs_types.specs.declared.script.ScriptLine.{ScriptLine}
 use Rattle.lvs_types.specs.declared.script.ScriptLine.TheVariants as line
 use Rattle.lvs_model.specs.Listings.{text_of}

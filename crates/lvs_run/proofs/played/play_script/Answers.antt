@@ -1,4 +1,4 @@
-use Rattle.std.proofs.Common.{ap, arith}
+use Rattle.std.proofs.Common.{arith}
 use Rattle.lvs_run.proofs.AnswerLemmas.{ends, serial_of}
 use Rattle.lvs_run.proofs.Items.{few_steps}
 use Rattle.lvs_run.proofs.played.play_script.Goals as goal

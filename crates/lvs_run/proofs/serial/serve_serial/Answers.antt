@@ -1,4 +1,4 @@
-use Rattle.std.proofs.Common.{◌≡◌, ℕ, List, Err, inr, map, sym, ◌∙◌, ap, subst}
+use Rattle.std.proofs.Common.{ℕ, List, Err, inr, map, sym, ◌∙◌, ap, subst}
 use Rattle.std.specs.Prelude.{string_bytes}
 use Rattle.lvs_outside.specs.declared.reading.TheConstants.{MAX_INPUT}
 use Rattle.lvs_model.specs.Scripts.{script_of}
