@@ -1,0 +1,2 @@
+//! Laws of the director: what an operator relies on.
+#![tactic(auto)]
