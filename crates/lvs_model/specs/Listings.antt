@@ -36,22 +36,26 @@ abbrev pub mask_addr : ℕ → Addr
 mask_addr bits = record { number = 2 ^ 32 - 2 ^ (32 - bits) }
 
 -- a word and an address, where the mask isn't 255.255.255.255
-abbrev pub mask_text : List ℕ → ℕ → List ℕ
+unfoldable pub mask_text : List ℕ → ℕ → List ℕ
 mask_text word bits = if (mask_addr bits).number == 4294967295 then [] else word ++ addr_text (mask_addr bits)
 
 -- a word and the seconds of persistence, where there is one
-abbrev pub persist_text : List ℕ → Option ℕ → List ℕ
+unfoldable pub persist_text : List ℕ → Option ℕ → List ℕ
 persist_text word None = []
 persist_text word (Some seconds) = word ++ decimal seconds
 
 -- a word where a flag is set
-abbrev pub flag_text : List ℕ → Bool → List ℕ
+unfoldable pub flag_text : List ℕ → Bool → List ℕ
 flag_text word true = word
 flag_text word false = []
 
 -- a word and a threshold, where it isn't 0
-abbrev pub threshold_text : List ℕ → ℕ → List ℕ
+unfoldable pub threshold_text : List ℕ → ℕ → List ℕ
 threshold_text word threshold = if threshold == 0 then [] else word ++ decimal threshold
+
+-- what is written of a service where it isn't the default, each with its word: persistence, mask and one-packet scheduling
+unfoldable pub options_text : List ℕ → List ℕ → List ℕ → Service → List ℕ
+options_text persistence mask one_packet s = persist_text persistence s.persist ++ mask_text mask s.mask_bits ++ flag_text one_packet s.one_packet
 
 -- the live servers of a service, in order
 abbrev pub rows_of : ServiceKey → List DestRow → List DestRow
@@ -60,14 +64,14 @@ rows_of key rows = filter (λ (row : DestRow). is_server_of key row.dest) rows
 -- SERVICES AND SERVERS
 
 -- TCP ADDR:PORT, UDP ADDR:PORT or FWM MARK
-abbrev pub key_text : ServiceKey → List ℕ
+unfoldable pub key_text : ServiceKey → List ℕ
 key_text (Net Tcp addr port) = codes "TCP " ++ endpoint_text addr port
 key_text (Net Udp addr port) = codes "UDP " ++ endpoint_text addr port
 key_text (Mark mark) = codes "FWM " ++ decimal mark
 
 abbrev pub service_line : Service → List ℕ
 service_line s =
-    key_text s.key ++ 32 ∷ [] ++ scheduler_name s.scheduler ++ persist_text (codes " persistent ") s.persist ++ mask_text (codes " mask ") s.mask_bits ++ flag_text (codes " ops") s.one_packet ++ 10 ∷ []
+    key_text s.key ++ 32 ∷ [] ++ scheduler_name s.scheduler ++ options_text (codes " persistent ") (codes " mask ") (codes " ops") s ++ 10 ∷ []
 
 -- how packets are forwarded, as `ipvsadm -L` names it
 abbrev pub method_title : Method → List ℕ
@@ -145,14 +149,14 @@ conns_text tables = entry_lines tables.now tables.entries ++ template_lines tabl
 -- TABLES AS WORDS
 
 -- -t ADDR:PORT, -u ADDR:PORT or -f MARK
-abbrev pub key_words : ServiceKey → List ℕ
+unfoldable pub key_words : ServiceKey → List ℕ
 key_words (Net Tcp addr port) = codes "-t " ++ endpoint_text addr port
 key_words (Net Udp addr port) = codes "-u " ++ endpoint_text addr port
 key_words (Mark mark) = codes "-f " ++ decimal mark
 
 abbrev pub service_words : Service → List ℕ
 service_words s =
-    codes "-A " ++ key_words s.key ++ codes " -s " ++ scheduler_name s.scheduler ++ persist_text (codes " -p ") s.persist ++ mask_text (codes " -M ") s.mask_bits ++ flag_text (codes " -o") s.one_packet ++ 10 ∷ []
+    codes "-A " ++ key_words s.key ++ codes " -s " ++ scheduler_name s.scheduler ++ options_text (codes " -p ") (codes " -M ") (codes " -o") s ++ 10 ∷ []
 
 abbrev pub method_word : Method → List ℕ
 method_word Masq = codes "-m"

@@ -1,5 +1,6 @@
 -- Reading saved tables back: the commands that the lines of a text are, or the first refused line (this project's profile).
-use Rattle.std.specs.Prelude.{ℕ, ◌+◌, List, [], ◌∷◌, Result, Ok, Err, if◌then◌else◌}
+use Rattle.std.specs.Prelude.{ℕ, ◌+◌, List, [], ◌∷◌, ◌++◌, Option, Some, None, Result, Ok, Err, if◌then◌else◌}
+use Rattle.std.specs.Option.{option_to_list}
 use Rattle.lvs_types.specs.declared.script.WordsCause.{WordsCause}
 use Rattle.lvs_types.specs.declared.script.WordsCause.TheVariants as cause
 use Rattle.lvs_types.specs.declared.command.Command.{Command}
@@ -33,15 +34,21 @@ abbrev pub at_line : {A : Type 0} → ℕ → Result A BadWord → Result A BadS
 at_line number (Ok read) = Ok read
 at_line number (Err bad) = Err (record { line = number; at = bad.at; cause = bad.cause })
 
--- the commands of the lines from a number on: the first line that is refused counts; lines without words and comments are skipped
+-- the command of a line, or none where the line is skipped: it has no words, or begins a comment
+abbrev pub some_command : Result Command BadWord → Result (Option Command) BadWord
+some_command (Ok command) = Ok (Some command)
+some_command (Err bad) = Err bad
+
+abbrev pub saved_line : List ℕ → Result (Option Command) BadWord
+saved_line text = if is_skipped (words_of text) then Ok None else some_command (saved_command text)
+
+-- the commands of the lines from a number on: the first line that is refused counts
 abbrev pub saved_commands : ℕ → List (List ℕ) → Result (List Command) BadSaved
 saved_commands number [] = Ok []
-saved_commands number (text ∷ texts) =
-    if is_skipped (words_of text) then saved_commands (number + 1) texts
-    else do
-      command ← at_line number (saved_command text)
-      commands ← saved_commands (number + 1) texts
-      Ok (command ∷ commands)
+saved_commands number (text ∷ texts) = do
+  command ← at_line number (saved_line text)
+  commands ← saved_commands (number + 1) texts
+  Ok (option_to_list command ++ commands)
 
 -- what a text means as saved tables: its commands in order, or the first refused line
 abbrev pub restored : List ℕ → Result (List Command) BadSaved

@@ -1,14 +1,26 @@
-//! The text of a report.
+//! The text of a report: printing it and reading it.
 #![tactic(auto)]
 
 mod act;
+mod cutting;
+pub mod laws;
+mod line;
 mod listing;
 mod names;
+mod numbers;
 mod pieces;
+mod reader;
+mod refused;
 mod reply;
+mod report;
 mod round;
+pub mod worked_examples;
 
+pub use refused::ReportRefused;
+pub use report::read_report;
 pub use round::print_round;
 
+#[cfg(test)]
+mod reading_tests;
 #[cfg(test)]
 mod tests;

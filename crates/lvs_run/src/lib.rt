@@ -3,6 +3,7 @@
 
 mod director;
 mod done;
+mod fault;
 mod input;
 mod playable;
 mod played;
@@ -13,9 +14,12 @@ mod top;
 mod written;
 
 pub use done::Done;
+pub use fault::fault_line;
 pub use serial::serve_serial;
 pub use top::serve;
 
+#[cfg(test)]
+mod fault_tests;
 #[cfg(test)]
 mod rows;
 #[cfg(test)]

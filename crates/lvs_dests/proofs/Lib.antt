@@ -1,0 +1,14 @@
+pub mod Tests
+pub mod Index
+pub mod Sorted
+pub mod Occupied
+pub mod Found
+pub mod Changes
+pub mod Listed
+pub mod Narrow
+pub mod Whole
+pub mod Reaped
+pub mod Tied
+pub mod Standing
+pub mod Serves
+pub mod Trashed

@@ -1,0 +1,205 @@
+//! Worked runs of thresholds, removal and revival, weight 0 and release, as lists of calls, and the
+//! refusals in their order.
+use crate::{DestRefused, Dests, Removed, Totals};
+use lvs_types::{Addr, DestId, DestSpec, Method, Proto, ServiceKey};
+use std::test::Fail;
+
+const WEB: ServiceKey = ServiceKey::Net {
+    proto: Proto::Tcp,
+    addr: Addr {
+        number: 0x0A00_0001,
+    },
+    port: 80,
+};
+
+const MARKED: ServiceKey = ServiceKey::Mark(0x0A00_0001);
+
+/// 192.168.0.1
+const A: Addr = Addr {
+    number: 0xC0A8_0001,
+};
+
+/// 192.168.0.2
+const B: Addr = Addr {
+    number: 0xC0A8_0002,
+};
+
+const fn server(addr: Addr) -> DestSpec {
+    DestSpec {
+        addr,
+        port: 80,
+        method: Method::Direct,
+        weight: 1,
+        upper: 0,
+        lower: 0,
+    }
+}
+
+const fn with_thresholds(upper: u32, lower: u32) -> DestSpec {
+    DestSpec {
+        upper,
+        lower,
+        ..server(A)
+    }
+}
+
+/// The eligible servers of the web service.
+fn eligible(dests: &Dests) -> usize {
+    dests.candidates(&WEB).iter().filter(|c| c.eligible).count()
+}
+
+#[test]
+fn four_connections_overload_and_two_relieve(rt: HostRuntime) -> Result<(), Fail> {
+    let mut dests = Dests::new(rt.alloc())?;
+    assert_eq!(rt; dests.add(&WEB, &with_thresholds(4, 0)), Ok(DestId(1)));
+    for expected in [1, 1, 1, 0] {
+        dests.bind(DestId(1), false);
+        assert_eq!(rt; eligible(&dests), expected);
+    }
+    dests.unbind(DestId(1), false);
+    assert_eq!(rt; eligible(&dests), 0);
+    dests.unbind(DestId(1), false);
+    assert_eq!(rt; eligible(&dests), 1);
+    Ok(())
+}
+
+/// Each row: the thresholds, and after 4, 3, 2, 1 and 0 connections whether the server is
+/// overloaded.
+#[test]
+fn a_table_of_totals_around_each_threshold(rt: HostRuntime) -> Result<(), Fail> {
+    let rows = [
+        (4, 0, [true, true, false, false, false]),
+        (4, 2, [true, true, true, false, false]),
+        (4, 4, [true, false, false, false, false]),
+        (5, 0, [false, false, false, false, false]),
+        (3, 0, [true, true, false, false, false]),
+        (1, 1, [true, true, true, true, false]),
+    ];
+    for (upper, lower, expected) in rows {
+        let mut dests = Dests::new(rt.alloc())?;
+        assert_eq!(rt;
+            dests.add(&WEB, &with_thresholds(upper, lower)),
+            Ok(DestId(1))
+        );
+        for _ in 0..4 {
+            dests.bind(DestId(1), true);
+        }
+        for (ended, overloaded) in expected.iter().enumerate() {
+            let found = dests.get(DestId(1)).map(|d| d.overloaded);
+            assert_eq!(rt; found, Some(*overloaded), "{upper} {lower} after {ended}");
+            if ended < 4 {
+                dests.unbind(DestId(1), true);
+            }
+        }
+    }
+    Ok(())
+}
+
+#[test]
+fn without_an_upper_threshold_it_is_cleared_at_once(rt: HostRuntime) -> Result<(), Fail> {
+    let mut dests = Dests::new(rt.alloc())?;
+    assert_eq!(rt; dests.add(&WEB, &with_thresholds(2, 0)), Ok(DestId(1)));
+    for _ in 0..3 {
+        dests.bind(DestId(1), false);
+    }
+    assert_eq!(rt; eligible(&dests), 0);
+    assert_eq!(rt; dests.edit(&WEB, &with_thresholds(0, 0)), Ok(()));
+    assert_eq!(rt; eligible(&dests), 1);
+    assert_eq!(rt; dests.edit(&WEB, &with_thresholds(3, 0)), Ok(()));
+    assert_eq!(rt; eligible(&dests), 0);
+    Ok(())
+}
+
+#[test]
+fn templates_never_change_overload(rt: HostRuntime) -> Result<(), Fail> {
+    let mut dests = Dests::new(rt.alloc())?;
+    assert_eq!(rt; dests.add(&WEB, &with_thresholds(1, 0)), Ok(DestId(1)));
+    dests.hold(DestId(1));
+    assert_eq!(rt; eligible(&dests), 1);
+    dests.bind(DestId(1), false);
+    assert_eq!(rt; eligible(&dests), 0);
+    dests.unhold(DestId(1));
+    dests.shift(DestId(1), true);
+    assert_eq!(rt; eligible(&dests), 0);
+    let expected = Totals {
+        active: 1,
+        inactive: 0,
+        templates: 0,
+    };
+    assert_eq!(rt; dests.totals(DestId(1)), Some(expected));
+    Ok(())
+}
+
+#[test]
+fn a_removed_server_that_is_named_comes_back_with_its_id(rt: HostRuntime) -> Result<(), Fail> {
+    let mut dests = Dests::new(rt.alloc())?;
+    assert_eq!(rt; dests.add(&WEB, &server(A)), Ok(DestId(1)));
+    assert_eq!(rt; dests.add(&WEB, &server(B)), Ok(DestId(2)));
+    dests.bind(DestId(1), false);
+    assert_eq!(rt; dests.remove(&WEB, A, 80), Ok(Removed::Trashed));
+    assert_eq!(rt; dests.get(DestId(1)).map(|d| d.live), Some(false));
+    assert_eq!(rt; dests.candidates(&WEB).len(), 1);
+    assert_eq!(rt; dests.find(&WEB, A, 80, 80), None);
+    assert_eq!(rt; dests.trash(rt.alloc())?.first().copied(), Some(DestId(1)));
+    assert_eq!(rt; dests.add(&WEB, &server(A)), Ok(DestId(1)));
+    assert_eq!(rt; dests.totals(DestId(1)).map(|t| t.inactive), Some(1));
+    assert_eq!(rt;
+        dests.candidates(&WEB).last().map(|c| c.id),
+        Some(DestId(1))
+    );
+    assert_eq!(rt; dests.find(&WEB, A, 80, 80), Some(DestId(1)));
+    assert_eq!(rt; dests.remove(&WEB, B, 80), Ok(Removed::Released));
+    assert_eq!(rt; dests.add(&WEB, &server(B)), Ok(DestId(3)));
+    assert!(rt; dests.get(DestId(2)).is_none());
+    Ok(())
+}
+
+#[test]
+fn weight_0_keeps_the_server_and_picks_it_no_more(rt: HostRuntime) -> Result<(), Fail> {
+    let mut dests = Dests::new(rt.alloc())?;
+    assert_eq!(rt; dests.add(&WEB, &server(A)), Ok(DestId(1)));
+    dests.bind(DestId(1), true);
+    let quiesced = DestSpec {
+        weight: 0,
+        ..server(A)
+    };
+    assert_eq!(rt; dests.edit(&WEB, &quiesced), Ok(()));
+    assert_eq!(rt; eligible(&dests), 0);
+    assert_eq!(rt; dests.get(DestId(1)).map(|d| d.live), Some(true));
+    assert_eq!(rt; dests.totals(DestId(1)).map(|t| t.active), Some(1));
+    Ok(())
+}
+
+#[test]
+fn a_trashed_server_is_released_once_nothing_names_it(rt: HostRuntime) -> Result<(), Fail> {
+    let mut dests = Dests::new(rt.alloc())?;
+    assert_eq!(rt; dests.add(&WEB, &server(A)), Ok(DestId(1)));
+    assert_eq!(rt; dests.add(&WEB, &server(B)), Ok(DestId(2)));
+    dests.bind(DestId(1), false);
+    dests.hold(DestId(1));
+    assert_eq!(rt; dests.remove(&WEB, A, 80), Ok(Removed::Trashed));
+    assert_eq!(rt; dests.reap(), 0);
+    dests.unbind(DestId(1), false);
+    assert_eq!(rt; dests.reap(), 0);
+    dests.unhold(DestId(1));
+    assert_eq!(rt; dests.reap(), 1);
+    assert!(rt; dests.get(DestId(1)).is_none());
+    assert_eq!(rt; dests.get(DestId(2)).map(|d| d.live), Some(true));
+    assert_eq!(rt; dests.trash(rt.alloc())?.len(), 0);
+    Ok(())
+}
+
+#[test]
+fn refusals_come_in_their_order(rt: HostRuntime) -> Result<(), Fail> {
+    let mut dests = Dests::new(rt.alloc())?;
+    let crossed = with_thresholds(2, 3);
+    assert_eq!(rt; dests.add(&WEB, &crossed), Err(DestRefused::Thresholds));
+    assert_eq!(rt; dests.edit(&WEB, &crossed), Err(DestRefused::NoDest));
+    assert_eq!(rt; dests.remove(&WEB, A, 80), Err(DestRefused::NoDest));
+    assert_eq!(rt; dests.add(&WEB, &server(A)), Ok(DestId(1)));
+    assert_eq!(rt; dests.add(&WEB, &crossed), Err(DestRefused::Exists));
+    assert_eq!(rt; dests.edit(&WEB, &crossed), Err(DestRefused::Thresholds));
+    assert_eq!(rt; dests.add(&MARKED, &server(A)), Ok(DestId(2)));
+    assert_eq!(rt; dests.remove(&MARKED, A, 81), Err(DestRefused::NoDest));
+    Ok(())
+}

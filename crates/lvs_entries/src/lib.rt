@@ -1,0 +1,13 @@
+//! Connection entries, in chains by their client and by id.
+#![tactic(auto)]
+
+mod chain;
+mod chains;
+mod entries;
+mod number;
+mod reply;
+#[cfg(test)]
+mod tests;
+pub mod worked_examples;
+
+pub use entries::Entries;

@@ -1,0 +1,10 @@
+pub mod Splits
+pub mod Cuts
+pub mod Commands
+pub mod Numerals
+pub mod Wording
+pub mod Taking
+pub mod ServiceLines
+pub mod ServerLines
+pub mod SavedTexts
+pub mod Applied

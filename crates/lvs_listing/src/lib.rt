@@ -1,0 +1,20 @@
+//! The listings of a director, and the reading back of saved tables.
+#![tactic(auto)]
+
+mod connections;
+mod cutting;
+pub mod laws;
+mod names;
+mod pieces;
+mod refused;
+mod restoring;
+mod saving;
+mod services;
+#[cfg(test)]
+mod tests;
+
+pub use connections::list_conns;
+pub use refused::RestoreRefused;
+pub use restoring::restore;
+pub use saving::save;
+pub use services::list;

@@ -1,0 +1,7 @@
+pub mod Splits
+pub mod Digits
+pub mod Reading
+pub mod Numerals
+pub mod Avoids
+pub mod PrintedLines
+pub mod ReadAgain

@@ -1,0 +1,114 @@
+//! A line of a report outside its listings.
+ghost use Rattle.std.specs.Prelude.{◌≡◌, [], IfOk};
+ghost use Rattle.std.specs.Option.{option_map};
+ghost use Rattle.lvs_types.specs.declared.report.ReportLine.TheVariants as line;
+ghost use Rattle.lvs_model.specs.ReportReading.{head_of, act_of, listing_of, line_of};
+ghost use Rattle.lvs_report.specs.Reader.{act_from};
+
+use crate::cutting::{behind, number_up_to};
+use crate::numbers::plain_number;
+use lvs_types::{Bytes, NoMemory, ReportLine, Shown, ShownText};
+use std::alloc::Global;
+
+/// The greatest number of 64 bits.
+const GREATEST_LONG: u64 = 18_446_744_073_709_551_615;
+
+/// The greatest number of 32 bits.
+const GREATEST_INT: u64 = 4_294_967_295;
+
+/// `round NUMBER at MOMENT workers W buckets B`.
+fn head_of(text: &[u8]) -> Option<ReportLine>
+    ensures { result ≡ head_of text.now }
+{
+    let rest = behind(b"round ", text)?;
+    let (number, rest) = number_up_to(b' ', GREATEST_LONG, rest)?;
+    let rest = behind(b"at ", rest)?;
+    let (moment, rest) = number_up_to(b' ', GREATEST_LONG, rest)?;
+    let rest = behind(b"workers ", rest)?;
+    let (workers, rest) = number_up_to(b' ', GREATEST_INT, rest)?;
+    let rest = behind(b"buckets ", rest)?;
+    let buckets = plain_number(GREATEST_INT, rest)?;
+    Some(ReportLine::Head {
+        number,
+        moment,
+        workers: workers as u32,
+        buckets: buckets as u32,
+    })
+}
+
+/// The parts of an act's line.
+#[derive(Clone, Copy)]
+struct ActParts<'a> {
+    place: u64,
+    actor: u32,
+    number: u64,
+    reply: &'a [u8],
+}
+
+/// `PLACE ACTOR.NUMBER REPLY`, with at least one byte of reply.
+fn act_parts(text: &[u8]) -> Option<ActParts<'_>>
+    ensures { option_map act_from result ≡ act_of text.now }
+{
+    let (place, rest) = number_up_to(b' ', GREATEST_LONG, text)?;
+    let (actor, rest) = number_up_to(b'.', GREATEST_INT, rest)?;
+    let (number, reply) = number_up_to(b' ', GREATEST_LONG, rest)?;
+    if reply.is_empty() {
+        return None;
+    }
+    Some(ActParts {
+        place,
+        actor: actor as u32,
+        number,
+        reply,
+    })
+}
+
+fn act_of(alloc: Global, text: &[u8]) -> Result<Option<ReportLine>, NoMemory>
+    ensures { IfOk result (λ act. act ≡ act_of text.now) }
+{
+    match act_parts(text) {
+        None => Ok(None),
+        Some(parts) => Ok(Some(ReportLine::Act {
+            place: parts.place,
+            actor: parts.actor,
+            number: parts.number,
+            reply: Bytes::copied(alloc, parts.reply)?,
+        })),
+    }
+}
+
+fn kind_of(text: &[u8]) -> Option<Shown>
+    ensures { option_map (λ kind. line.Shown (record { kind = kind; text = [] })) result ≡ listing_of text.now }
+{
+    if text == b"list".as_slice() {
+        Some(Shown::List)
+    } else if text == b"conns".as_slice() {
+        Some(Shown::Conns)
+    } else if text == b"save".as_slice() {
+        Some(Shown::Save)
+    } else {
+        None
+    }
+}
+
+/// The first line of a listing: a listing without lines so far.
+fn listing_of(alloc: Global, text: &[u8]) -> Option<ReportLine>
+    ensures { result ≡ listing_of text.now }
+{
+    let kind = kind_of(text)?;
+    let text = Bytes::new(alloc);
+    Some(ReportLine::Shown(ShownText { kind, text }))
+}
+
+/// A head, an act or the first line of a listing.
+pub(crate) fn line_of(alloc: Global, text: &[u8]) -> Result<Option<ReportLine>, NoMemory>
+    ensures { IfOk result (λ line. line ≡ line_of text.now) }
+{
+    if let Some(head) = head_of(text) {
+        return Ok(Some(head));
+    }
+    if let Some(act) = act_of(alloc, text)? {
+        return Ok(Some(act));
+    }
+    Ok(listing_of(alloc, text))
+}
