@@ -1,0 +1,4 @@
+pub mod Kept
+pub mod KeptPackets
+pub mod KeptSteps
+pub mod TakeOvers
