@@ -35,7 +35,7 @@ use Rattle.lvs_model.specs.Learning.{recorded_key, recorded_entry, add_entry, re
 use Rattle.lvs_model.specs.Lookups.{template_at}
 use Rattle.lvs_model.specs.Same.{addr_eq}
 use Rattle.lvs_model.specs.WellFormed.{IsWellFormed, IsDrawn}
-use Rattle.lvs_well_formed.proofs.Lists.{all_find, all_unmap, all_weaker, all_filter}
+use Rattle.lvs_well_formed.proofs.Lists.{all_find, find_passes, all_unmap, all_weaker, all_filter}
 use Rattle.lvs_well_formed.proofs.Finds.{find_last, find_put}
 use Rattle.lvs_well_formed.proofs.Keys.{nat_same, addr_true}
 use Rattle.lvs_well_formed.proofs.Parts.{Parts, parts_of}
@@ -192,6 +192,16 @@ recorded_there s sync_id r w taken =
     let there : entry_at (recorded_key r) t.entries ≡ Some has.own = subst (λ (k : Key). entry_at k t.entries ≡ Some has.own) has.recorded.key found in
     subst (IsThereAsRecorded r) (sym there) has.recorded
 
+pub recorded_stays : (s : State) (sync_id : ℕ) (r : SyncRecord) (e : Entry) (items : List Item) (later : Entry)
+    → IsWellFormed s → IsTakenOver s sync_id r → entry_at (recorded_key r) (after_record s sync_id r).entries ≡ Some e
+    → entry_of_id e.id (run (after_record s sync_id r) items).1.entries ≡ Some later → IsAsRecorded r later
+recorded_stays s sync_id r e items later w taken there found =
+    let t : State = after_record s sync_id r in
+    let well : IsWellFormed t = step_well_formed s (item.Learn sync_id (V4 r)) w in
+    let recorded : IsAsRecorded r e = subst (IsThereAsRecorded r) there (recorded_there s sync_id r w taken) in
+    let kept = run_kept t e items well (found_by_key t (recorded_key r) e (parts_of t well) there) in
+    recorded_then r e later recorded (subst (IsKeptUnless (LeavesIn t e items) e) found kept)
+
 pub recorded_lasts : (s : State) (sync_id : ℕ) (r : SyncRecord) (e : Entry) (items : List Item) (later : Entry) (mark : ℕ) (bytes : List ℕ) (head : Head) (proto : Proto)
     → IsWellFormed s → IsTakenOver s sync_id r → entry_at (recorded_key r) (after_record s sync_id r).entries ≡ Some e
     → entry_of_id e.id (run (after_record s sync_id r) items).1.entries ≡ Some later
@@ -201,10 +211,9 @@ recorded_lasts s sync_id r e items later mark bytes head proto w taken there fou
     let t : State = after_record s sync_id r in
     let u : State = (run t items).1 in
     let well : IsWellFormed t = step_well_formed s (item.Learn sync_id (V4 r)) w in
-    let recorded : IsAsRecorded r e = subst (IsThereAsRecorded r) there (recorded_there s sync_id r w taken) in
-    let same : IsSameConnection e later = subst (IsKeptUnless (LeavesIn t e items) e) found (run_kept t e items well (found_by_key t (recorded_key r) e (parts_of t well) there)) in
-    let now : IsAsRecorded r later = recorded_then r e later recorded same in
-    let own : entry_of_id later.id u.entries ≡ Some later = subst (λ id. entry_of_id id u.entries ≡ Some later) (sym same.id) found in
+    let now : IsAsRecorded r later = recorded_stays s sync_id r e items later w taken there found in
+    let same : later.id ≡ e.id = eqb-true later.id e.id (find_passes (has_entry_id e.id) u.entries later found) in
+    let own : entry_of_id later.id u.entries ≡ Some later = subst (λ id. entry_of_id id u.entries ≡ Some later) (sym same) found in
     let sent = step_sent u later mark bytes head proto (run_well_formed t items well) own plain in
     subst (λ port. IsSentOn u later head bytes r.daddr port (step u (item.Incoming mark bytes)).0) now.dport
     (subst (λ addr. IsSentOn u later head bytes addr later.dport (step u (item.Incoming mark bytes)).0) now.daddr sent)

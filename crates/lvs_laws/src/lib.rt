@@ -2,4 +2,5 @@
 #![tactic(auto)]
 
 pub mod keep;
+pub mod keep_examples;
 pub mod takeover;

@@ -12,7 +12,7 @@ ghost use Rattle.lvs_model.specs.State.{State};
 ghost use Rattle.lvs_model.specs.Step.{step, run};
 ghost use Rattle.lvs_model.specs.WellFormed.{IsWellFormed};
 ghost use Rattle.lvs_laws.specs.Keeping.{entry_of_id};
-ghost use Rattle.lvs_laws.specs.TakingOver.{IsPlainPacketOf, IsSentOn, IsTakenOver, IsThereAsRecorded, after_record};
+ghost use Rattle.lvs_laws.specs.TakingOver.{IsAsRecorded, IsPlainPacketOf, IsSentOn, IsTakenOver, IsThereAsRecorded, after_record};
 
 /// A packet of a connection's key that doesn't take up its place goes to the connection's address and port,
 /// or is dropped, since the server was removed or the tunnel packet would be too long.
@@ -21,9 +21,13 @@ pub fn packets_follow_their_connection()
 {}
 
 /// After an accepted connection record the entry of its key is there, with the address and port that were
-/// recorded. Through all later items, as long as an entry of its id is there, packets follow them.
+/// recorded. Through all later items, as long as an entry of its id is there, it stays so, and its packets
+/// go to the recorded address, with the bytes for the recorded port.
 pub fn recorded_connections_are_taken_over()
     ensures there { (s : State) (sync_id : ℕ) (r : SyncRecord) → IsWellFormed s → IsTakenOver s sync_id r → IsThereAsRecorded r (entry_at (recorded_key r) (after_record s sync_id r).entries) }
+    ensures stays { (s : State) (sync_id : ℕ) (r : SyncRecord) (e : Entry) (items : List Item) (later : Entry)
+        → IsWellFormed s → IsTakenOver s sync_id r → entry_at (recorded_key r) (after_record s sync_id r).entries ≡ Some e
+        → entry_of_id e.id (run (after_record s sync_id r) items).1.entries ≡ Some later → IsAsRecorded r later }
     ensures lasts { (s : State) (sync_id : ℕ) (r : SyncRecord) (e : Entry) (items : List Item) (later : Entry) (mark : ℕ) (bytes : List ℕ) (head : Head) (proto : Proto)
         → IsWellFormed s → IsTakenOver s sync_id r → entry_at (recorded_key r) (after_record s sync_id r).entries ≡ Some e
         → entry_of_id e.id (run (after_record s sync_id r) items).1.entries ≡ Some later
