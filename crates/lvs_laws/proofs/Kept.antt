@@ -1,6 +1,6 @@
 -- A connection through edits of the list of entries: what is found under its id.
 use Rattle.std.proofs.Common.{◌≡◌, ◌==◌, ◌<◌, ℕ, Bool, true, false, cond, not, List, [], ◌∷◌, ◌++◌, Option, Some, None, refl, sym, ap, subst, ◌∙◌, is_some, arith}
-use Rattle.std.proofs.lemmas.Bool.{eqb-true, false_from_ne_true, both_ways}
+use Rattle.std.proofs.lemmas.Bool.{eqb-true, false_from_ne_true}
 use Rattle.std.specs.List.{AllByRecursion, find, filter}
 use Rattle.lvs_types.specs.declared.entry.Entry.{Entry}
 use Rattle.lvs_model.specs.State.{State}
@@ -12,7 +12,7 @@ use Rattle.lvs_well_formed.proofs.Lists.{all_find, all_filter, all_unmap, find_p
 use Rattle.lvs_well_formed.proofs.Finds.{find_filter, find_put}
 use Rattle.lvs_well_formed.proofs.Keys.{nat_same}
 use Rattle.lvs_well_formed.proofs.Parts.{Parts}
-use Rattle.lvs_well_formed.proofs.Entries.{IsEntryOf, entries_found}
+use Rattle.lvs_well_formed.proofs.Entries.{IsEntryOf}
 use Rattle.lvs_laws.specs.Keeping.{IsSameConnection, IsKeptUnless, entry_of_id}
 
 -- ONE CONNECTION
@@ -123,7 +123,6 @@ filtered_step Way e (Some later) way one = subst (IsSameConnection e) (one later
 -- those that pass stay
 pub filter_kept : (test : Entry → Bool) (es : List Entry) (e : Entry) → AreFound es → entry_of_id e.id es ≡ Some e → IsKeptUnless (test e ≡ false) e (entry_of_id e.id (filter test es))
 filter_kept test es e each found =
-    let Way : Type 0 = test e ≡ false in
     let M : Bool → Type 0 = λ b. test e ≡ b → IsKeptUnless (test e ≡ false) e (entry_of_id e.id (filter test es)) in
     (elim (test e) as M [
       | true ↦ (λ stays. kept_found (test e ≡ false) e e (entry_of_id e.id (filter test es)) (find_filter (has_entry_id e.id) test es e found stays) (same_self e))

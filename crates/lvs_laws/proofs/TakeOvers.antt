@@ -1,7 +1,7 @@
 -- The packets of a connection follow it, and a recorded connection is there as it was recorded.
-use Rattle.std.proofs.Common.{◌≡◌, ◌==◌, ◌<◌, ◌&&◌, ◌+◌, ℕ, Bool, true, false, cond, List, [], ◌∷◌, ◌++◌, Option, Some, None, Result, Ok, Err, refl, sym, ap, subst, ◌∙◌, take, is_some, arith}
+use Rattle.std.proofs.Common.{◌≡◌, ◌==◌, ◌<◌, ◌+◌, ℕ, Bool, true, false, cond, List, [], ◌∷◌, ◌++◌, Option, Some, None, Result, refl, sym, ap, subst, ◌∙◌, take, arith}
 use Rattle.std.proofs.lemmas.Bool.{and_parts, eqb-true, false_from_ne_true}
-use Rattle.std.specs.List.{AllByRecursion, find}
+use Rattle.std.specs.List.{AllByRecursion}
 use Rattle.lvs_types.specs.declared.addr.Addr.{Addr}
 use Rattle.lvs_types.specs.declared.addr.DestId.{DestId}
 use Rattle.lvs_types.specs.declared.head.Head.{Head}
@@ -16,26 +16,23 @@ use Rattle.lvs_types.specs.declared.item.Item.TheVariants as item
 use Rattle.lvs_types.specs.declared.reply.Reply.{Reply}
 use Rattle.lvs_types.specs.declared.reply.Reply.TheVariants as reply
 use Rattle.lvs_types.specs.declared.reply.DropCause.TheVariants as drops
-use Rattle.lvs_types.specs.declared.sync.SyncItem.{SyncItem}
 use Rattle.lvs_types.specs.declared.sync.SyncItem.TheVariants.{V4}
 use Rattle.lvs_types.specs.declared.sync.SyncRecord.{SyncRecord}
 use Rattle.lvs_types.specs.declared.sync.Learnt.{Learnt}
 use Rattle.lvs_types.specs.declared.sync.Learnt.TheVariants as learnt
 use Rattle.lvs_model.specs.State.{State}
 use Rattle.lvs_model.specs.Step.{step, run}
-use Rattle.lvs_model.specs.Reading.{read}
 use Rattle.lvs_model.specs.Rewriting.{bytes_for, is_too_long}
-use Rattle.lvs_model.specs.Lookups.{entry_at, has_entry_id, has_key}
-use Rattle.lvs_model.specs.Packets.{Packet, transport_of, key_of}
+use Rattle.lvs_model.specs.Lookups.{entry_at, has_entry_id}
+use Rattle.lvs_model.specs.Packets.{transport_of, key_of}
 use Rattle.lvs_model.specs.Binding.{put_entry, bind_entry, try_binding, server_for_entry}
-use Rattle.lvs_model.specs.Forwarding.{forwarded}
-use Rattle.lvs_model.specs.Incoming.{end_entry, continue, arrive, take_back, incoming_packet, incoming_of, incoming_read}
+use Rattle.lvs_model.specs.Incoming.{end_entry, continue, arrive, take_back, incoming_of, incoming_read}
 use Rattle.lvs_model.specs.SyncRules.{accept, is_template_record}
-use Rattle.lvs_model.specs.Learning.{recorded_key, recorded_entry, add_entry, relearnt, goes_to_recorded, relearn, learn_connection, recorded_template_key, learn_template, learn_record, learn_by}
+use Rattle.lvs_model.specs.Learning.{recorded_key, recorded_entry, add_entry, relearnt, goes_to_recorded, relearn, learn_connection, recorded_template_key, learn_template, learn_by}
 use Rattle.lvs_model.specs.Lookups.{template_at}
 use Rattle.lvs_model.specs.Same.{addr_eq}
 use Rattle.lvs_model.specs.WellFormed.{IsWellFormed, IsDrawn}
-use Rattle.lvs_well_formed.proofs.Lists.{all_find, find_passes, all_unmap, all_weaker, all_filter}
+use Rattle.lvs_well_formed.proofs.Lists.{all_find, find_passes, all_unmap, all_weaker}
 use Rattle.lvs_well_formed.proofs.Finds.{find_last, find_put}
 use Rattle.lvs_well_formed.proofs.Keys.{nat_same, addr_true}
 use Rattle.lvs_well_formed.proofs.Parts.{Parts, parts_of}
@@ -43,10 +40,9 @@ use Rattle.lvs_well_formed.proofs.Entries.{IsEntryOf, ended_after}
 use Rattle.lvs_well_formed.proofs.Free.{found_by_key, found_of_key}
 use Rattle.lvs_well_formed.proofs.Found.{entries_by_key}
 use Rattle.lvs_well_formed.proofs.Steps.{step_well_formed, run_well_formed}
-use Rattle.lvs_laws.specs.Keeping.{IsSameConnection, IsKeptUnless, LeavesIn, entry_of_id, met, is_reused_by, is_at_removed, IsPacketOf, packet_of}
+use Rattle.lvs_laws.specs.Keeping.{IsSameConnection, IsKeptUnless, LeavesIn, entry_of_id, met, is_reused_by, is_at_removed, packet_of}
 use Rattle.lvs_laws.specs.TakingOver.{IsPlainPacketOf, IsSentOn, IsTakenOver, IsAsRecorded, IsThereAsRecorded, after_record}
-use Rattle.lvs_laws.proofs.Kept.{same_self, same_then}
-use Rattle.lvs_laws.proofs.KeptPackets.{try_same, met_same, try_kept}
+use Rattle.lvs_laws.proofs.KeptConnects.{met_same, try_kept}
 use Rattle.lvs_laws.proofs.KeptSteps.{run_kept}
 
 -- A PACKET OF A CONNECTION
@@ -87,8 +83,8 @@ arrive_sent s mark bytes head proto e stays =
     let same = met_same s e in
     let sent = continue_sent s bound.1 mark bytes head proto e bound.0 (is_at_removed s e) refl refl (try_local s e e.server) in
     let there : IsSentOn s e head bytes e.daddr e.dport (continue bound.1 p bound.0 false (is_at_removed s e)).0 =
-        subst (λ port. IsSentOn s e head bytes e.daddr port (continue bound.1 p bound.0 false (is_at_removed s e)).0) same.dport
-        (subst (λ addr. IsSentOn s e head bytes addr bound.0.dport (continue bound.1 p bound.0 false (is_at_removed s e)).0) same.daddr sent)
+    subst (λ port. IsSentOn s e head bytes e.daddr port (continue bound.1 p bound.0 false (is_at_removed s e)).0) same.dport
+    (subst (λ addr. IsSentOn s e head bytes addr bound.0.dport (continue bound.1 p bound.0 false (is_at_removed s e)).0) same.daddr sent)
     in
     subst (λ reused. IsSentOn s e head bytes e.daddr e.dport (continue bound.1 p bound.0 reused (is_at_removed s e)).0) (sym stays) there
 
@@ -107,7 +103,7 @@ step_sent s e mark bytes head proto w found plain =
     let there : entry_at (key_of proto head) s.entries ≡ Some e = subst (λ (k : Key). entry_at k s.entries ≡ Some e) (sym plain.packet.key) (by_key s e w found) in
     let sent = packet_sent s mark bytes head proto e (entry_at (key_of proto head) s.entries) there plain.stays in
     let of : IsSentOn s e head bytes e.daddr e.dport (incoming_of s mark head bytes (transport_of head)).0 =
-        subst (λ (o : Option Proto). IsSentOn s e head bytes e.daddr e.dport (incoming_of s mark head bytes o).0) (sym plain.packet.transport) sent
+    subst (λ (o : Option Proto). IsSentOn s e head bytes e.daddr e.dport (incoming_of s mark head bytes o).0) (sym plain.packet.transport) sent
     in
     subst (λ (r : Result Head Malformed). IsSentOn s e head bytes e.daddr e.dport (incoming_read s mark bytes r).0) (sym plain.packet.reads) of
 

@@ -1,5 +1,5 @@
 -- What the worked examples of the laws Keep and Takeover run: one connection, and the record of one.
-use Rattle.std.specs.Prelude.{ℕ, true, false, List, [], ◌∷◌, Option, Some, None}
+use Rattle.std.specs.Prelude.{true, false, [], ◌∷◌, Some, None}
 use Rattle.lvs_types.specs.declared.addr.Addr.{Addr}
 use Rattle.lvs_types.specs.declared.head.Head.{Head}
 use Rattle.lvs_types.specs.declared.service.Proto.TheVariants.{Tcp}
@@ -11,7 +11,6 @@ use Rattle.lvs_types.specs.declared.entry.Entry.{Entry}
 use Rattle.lvs_types.specs.declared.entry.TcpState.TheVariants.{SynRecv, Established}
 use Rattle.lvs_types.specs.declared.item.Item.{Item}
 use Rattle.lvs_types.specs.declared.item.Item.TheVariants as item
-use Rattle.lvs_types.specs.declared.sync.SyncItem.TheVariants.{V4}
 use Rattle.lvs_types.specs.declared.sync.SyncRecord.{SyncRecord}
 use Rattle.lvs_model.specs.ExampleItems.{virtual_addr, server_addr, web, direct_server, add_service, add_web_server, syn, left_by}
 use Rattle.lvs_model.specs.State.{State}

@@ -1,5 +1,5 @@
 -- What the law Keep speaks of: a connection goes on with its server, and the ways in which it leaves.
-use Rattle.std.specs.Prelude.{◌≡◌, ℕ, ◌≤◌, ◌==◌, true, false, ◌⊎◌, Bool, List, [], ◌∷◌, ◌++◌, Option, Some, None, Result, Ok, Err, is_some, take}
+use Rattle.std.specs.Prelude.{◌≡◌, ℕ, ◌≤◌, ◌==◌, true, false, ◌⊎◌, Bool, List, ◌∷◌, ◌++◌, Option, Some, None, Ok, is_some, take}
 use Rattle.std.specs.List.{find}
 use Rattle.lvs_types.specs.declared.head.Head.{Head}
 use Rattle.lvs_types.specs.declared.service.Proto.{Proto}

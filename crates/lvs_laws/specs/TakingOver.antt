@@ -4,7 +4,6 @@ use Rattle.lvs_types.specs.declared.addr.Addr.{Addr}
 use Rattle.lvs_types.specs.declared.head.Head.{Head}
 use Rattle.lvs_types.specs.declared.service.Proto.{Proto}
 use Rattle.lvs_types.specs.declared.entry.Entry.{Entry}
-use Rattle.lvs_types.specs.declared.item.Item.{Item}
 use Rattle.lvs_types.specs.declared.item.Item.TheVariants as item
 use Rattle.lvs_types.specs.declared.reply.Reply.{Reply}
 use Rattle.lvs_types.specs.declared.reply.Reply.TheVariants as reply
@@ -13,11 +12,11 @@ use Rattle.lvs_types.specs.declared.sync.SyncItem.TheVariants.{V4}
 use Rattle.lvs_types.specs.declared.sync.SyncRecord.{SyncRecord}
 use Rattle.lvs_types.specs.declared.sync.Learnt.TheVariants as learnt
 use Rattle.lvs_model.specs.State.{State}
-use Rattle.lvs_model.specs.Step.{step, run}
+use Rattle.lvs_model.specs.Step.{step}
 use Rattle.lvs_model.specs.Rewriting.{bytes_for, is_too_long}
 use Rattle.lvs_model.specs.SyncRules.{is_template_record}
 use Rattle.lvs_model.specs.Learning.{recorded_key}
-use Rattle.lvs_laws.specs.Keeping.{IsPacketOf, packet_of, met, is_reused_by, is_at_removed, entry_of_id}
+use Rattle.lvs_laws.specs.Keeping.{IsPacketOf, packet_of, met, is_reused_by, is_at_removed}
 
 -- a packet of the entry's key that doesn't take up its place
 pub record IsPlainPacketOf (s : State) (e : Entry) (mark : ℕ) (bytes : List ℕ) (head : Head) (proto : Proto) : Type 0 where
