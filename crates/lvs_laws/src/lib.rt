@@ -1,0 +1,6 @@
+//! Laws of the director: what an operator relies on.
+#![tactic(auto)]
+
+pub mod keep;
+pub mod keep_examples;
+pub mod takeover;
