@@ -4,3 +4,10 @@ pub mod KeptPackets
 pub mod KeptTables
 pub mod KeptSteps
 pub mod TakeOvers
+pub mod ReleaseKept
+pub mod ReleasePackets
+pub mod ReleaseLeft
+pub mod ReleaseEdits
+pub mod ReleaseTaken
+pub mod ReleaseSteps
+pub mod ReleaseRuns

@@ -1,3 +1,5 @@
 pub mod Keeping
 pub mod TakingOver
 pub mod KeepExamples
+pub mod Releasing
+pub mod ReleaseExamples

@@ -3,4 +3,6 @@
 
 pub mod keep;
 pub mod keep_examples;
+pub mod release;
 pub mod takeover;
+pub mod worked_releases;
