@@ -1,7 +1,9 @@
 //! Worked runs of thresholds, removal and revival, weight 0 and release, as lists of calls, and the
 //! refusals in their order.
+ghost use Rattle.std.specs.Prelude.{◌≡◌, ◌&&◌, nat_lt};
+
 use crate::{DestRefused, Dests, Removed, Totals};
-use lvs_types::{Addr, DestId, DestSpec, Method, Proto, ServiceKey};
+use lvs_types::{Addr, DestId, DestRow, DestSpec, Method, Proto, ServiceKey};
 use std::test::Fail;
 
 const WEB: ServiceKey = ServiceKey::Net {
@@ -43,6 +45,70 @@ const fn with_thresholds(upper: u32, lower: u32) -> DestSpec {
     }
 }
 
+/// Adds a server, as long as ids are far from their type's end.
+fn add(dests: &mut Dests, service: &ServiceKey, spec: &DestSpec) -> Result<DestId, DestRefused> {
+    if dests.next < 1000 {
+        dests.add(service, spec)
+    } else {
+        Err(DestRefused::NoMemory)
+    }
+}
+
+/// Whether one more fits at the server.
+fn has_room(row: &DestRow) -> bool
+    ensures { result ≡ (nat_lt row.now.active 1000 && nat_lt row.now.inactive 1000 && nat_lt row.now.templates 1000) }
+{
+    row.active < 1000 && row.inactive < 1000 && row.templates < 1000
+}
+
+/// Binds an entry to a server that is there.
+fn bind(dests: &mut Dests, id: DestId, active: bool) {
+    if let Some(row) = dests.row(id) {
+        if has_room(&row) {
+            dests.bind(id, active);
+        }
+    }
+}
+
+/// Ends an entry, active or not, of a server that has one.
+fn unbind(dests: &mut Dests, id: DestId, active: bool) {
+    if let Some(row) = dests.row(id) {
+        if active && 0 < row.active {
+            dests.unbind(id, true);
+        }
+        if !active && 0 < row.inactive {
+            dests.unbind(id, false);
+        }
+    }
+}
+
+/// An inactive entry of a server becomes active.
+fn activate(dests: &mut Dests, id: DestId) {
+    if let Some(row) = dests.row(id) {
+        if has_room(&row) && 0 < row.inactive {
+            dests.shift(id, true);
+        }
+    }
+}
+
+/// A template names a server that is there.
+fn hold(dests: &mut Dests, id: DestId) {
+    if let Some(row) = dests.row(id) {
+        if has_room(&row) {
+            dests.hold(id);
+        }
+    }
+}
+
+/// A template of a server ends.
+fn unhold(dests: &mut Dests, id: DestId) {
+    if let Some(row) = dests.row(id) {
+        if 0 < row.templates {
+            dests.unhold(id);
+        }
+    }
+}
+
 /// The eligible servers of the web service.
 fn eligible(dests: &Dests) -> usize {
     dests.candidates(&WEB).iter().filter(|c| c.eligible).count()
@@ -51,14 +117,17 @@ fn eligible(dests: &Dests) -> usize {
 #[test]
 fn four_connections_overload_and_two_relieve(rt: HostRuntime) -> Result<(), Fail> {
     let mut dests = Dests::new(rt.alloc())?;
-    assert_eq!(rt; dests.add(&WEB, &with_thresholds(4, 0)), Ok(DestId(1)));
+    assert_eq!(rt;
+        add(&mut dests, &WEB, &with_thresholds(4, 0)),
+        Ok(DestId(1))
+    );
     for expected in [1, 1, 1, 0] {
-        dests.bind(DestId(1), false);
+        bind(&mut dests, DestId(1), false);
         assert_eq!(rt; eligible(&dests), expected);
     }
-    dests.unbind(DestId(1), false);
+    unbind(&mut dests, DestId(1), false);
     assert_eq!(rt; eligible(&dests), 0);
-    dests.unbind(DestId(1), false);
+    unbind(&mut dests, DestId(1), false);
     assert_eq!(rt; eligible(&dests), 1);
     Ok(())
 }
@@ -78,17 +147,17 @@ fn a_table_of_totals_around_each_threshold(rt: HostRuntime) -> Result<(), Fail> 
     for (upper, lower, expected) in rows {
         let mut dests = Dests::new(rt.alloc())?;
         assert_eq!(rt;
-            dests.add(&WEB, &with_thresholds(upper, lower)),
+            add(&mut dests, &WEB, &with_thresholds(upper, lower)),
             Ok(DestId(1))
         );
         for _ in 0..4 {
-            dests.bind(DestId(1), true);
+            bind(&mut dests, DestId(1), true);
         }
         for (ended, overloaded) in expected.iter().enumerate() {
             let found = dests.get(DestId(1)).map(|d| d.overloaded);
             assert_eq!(rt; found, Some(*overloaded), "{upper} {lower} after {ended}");
             if ended < 4 {
-                dests.unbind(DestId(1), true);
+                unbind(&mut dests, DestId(1), true);
             }
         }
     }
@@ -98,9 +167,12 @@ fn a_table_of_totals_around_each_threshold(rt: HostRuntime) -> Result<(), Fail> 
 #[test]
 fn without_an_upper_threshold_it_is_cleared_at_once(rt: HostRuntime) -> Result<(), Fail> {
     let mut dests = Dests::new(rt.alloc())?;
-    assert_eq!(rt; dests.add(&WEB, &with_thresholds(2, 0)), Ok(DestId(1)));
+    assert_eq!(rt;
+        add(&mut dests, &WEB, &with_thresholds(2, 0)),
+        Ok(DestId(1))
+    );
     for _ in 0..3 {
-        dests.bind(DestId(1), false);
+        bind(&mut dests, DestId(1), false);
     }
     assert_eq!(rt; eligible(&dests), 0);
     assert_eq!(rt; dests.edit(&WEB, &with_thresholds(0, 0)), Ok(()));
@@ -113,13 +185,16 @@ fn without_an_upper_threshold_it_is_cleared_at_once(rt: HostRuntime) -> Result<(
 #[test]
 fn templates_never_change_overload(rt: HostRuntime) -> Result<(), Fail> {
     let mut dests = Dests::new(rt.alloc())?;
-    assert_eq!(rt; dests.add(&WEB, &with_thresholds(1, 0)), Ok(DestId(1)));
-    dests.hold(DestId(1));
+    assert_eq!(rt;
+        add(&mut dests, &WEB, &with_thresholds(1, 0)),
+        Ok(DestId(1))
+    );
+    hold(&mut dests, DestId(1));
     assert_eq!(rt; eligible(&dests), 1);
-    dests.bind(DestId(1), false);
+    bind(&mut dests, DestId(1), false);
     assert_eq!(rt; eligible(&dests), 0);
-    dests.unhold(DestId(1));
-    dests.shift(DestId(1), true);
+    unhold(&mut dests, DestId(1));
+    activate(&mut dests, DestId(1));
     assert_eq!(rt; eligible(&dests), 0);
     let expected = Totals {
         active: 1,
@@ -133,15 +208,15 @@ fn templates_never_change_overload(rt: HostRuntime) -> Result<(), Fail> {
 #[test]
 fn a_removed_server_that_is_named_comes_back_with_its_id(rt: HostRuntime) -> Result<(), Fail> {
     let mut dests = Dests::new(rt.alloc())?;
-    assert_eq!(rt; dests.add(&WEB, &server(A)), Ok(DestId(1)));
-    assert_eq!(rt; dests.add(&WEB, &server(B)), Ok(DestId(2)));
-    dests.bind(DestId(1), false);
+    assert_eq!(rt; add(&mut dests, &WEB, &server(A)), Ok(DestId(1)));
+    assert_eq!(rt; add(&mut dests, &WEB, &server(B)), Ok(DestId(2)));
+    bind(&mut dests, DestId(1), false);
     assert_eq!(rt; dests.remove(&WEB, A, 80), Ok(Removed::Trashed));
     assert_eq!(rt; dests.get(DestId(1)).map(|d| d.live), Some(false));
     assert_eq!(rt; dests.candidates(&WEB).len(), 1);
     assert_eq!(rt; dests.find(&WEB, A, 80, 80), None);
     assert_eq!(rt; dests.trash(rt.alloc())?.first().copied(), Some(DestId(1)));
-    assert_eq!(rt; dests.add(&WEB, &server(A)), Ok(DestId(1)));
+    assert_eq!(rt; add(&mut dests, &WEB, &server(A)), Ok(DestId(1)));
     assert_eq!(rt; dests.totals(DestId(1)).map(|t| t.inactive), Some(1));
     assert_eq!(rt;
         dests.candidates(&WEB).last().map(|c| c.id),
@@ -149,7 +224,7 @@ fn a_removed_server_that_is_named_comes_back_with_its_id(rt: HostRuntime) -> Res
     );
     assert_eq!(rt; dests.find(&WEB, A, 80, 80), Some(DestId(1)));
     assert_eq!(rt; dests.remove(&WEB, B, 80), Ok(Removed::Released));
-    assert_eq!(rt; dests.add(&WEB, &server(B)), Ok(DestId(3)));
+    assert_eq!(rt; add(&mut dests, &WEB, &server(B)), Ok(DestId(3)));
     assert!(rt; dests.get(DestId(2)).is_none());
     Ok(())
 }
@@ -157,8 +232,8 @@ fn a_removed_server_that_is_named_comes_back_with_its_id(rt: HostRuntime) -> Res
 #[test]
 fn weight_0_keeps_the_server_and_picks_it_no_more(rt: HostRuntime) -> Result<(), Fail> {
     let mut dests = Dests::new(rt.alloc())?;
-    assert_eq!(rt; dests.add(&WEB, &server(A)), Ok(DestId(1)));
-    dests.bind(DestId(1), true);
+    assert_eq!(rt; add(&mut dests, &WEB, &server(A)), Ok(DestId(1)));
+    bind(&mut dests, DestId(1), true);
     let quiesced = DestSpec {
         weight: 0,
         ..server(A)
@@ -173,15 +248,15 @@ fn weight_0_keeps_the_server_and_picks_it_no_more(rt: HostRuntime) -> Result<(),
 #[test]
 fn a_trashed_server_is_released_once_nothing_names_it(rt: HostRuntime) -> Result<(), Fail> {
     let mut dests = Dests::new(rt.alloc())?;
-    assert_eq!(rt; dests.add(&WEB, &server(A)), Ok(DestId(1)));
-    assert_eq!(rt; dests.add(&WEB, &server(B)), Ok(DestId(2)));
-    dests.bind(DestId(1), false);
-    dests.hold(DestId(1));
+    assert_eq!(rt; add(&mut dests, &WEB, &server(A)), Ok(DestId(1)));
+    assert_eq!(rt; add(&mut dests, &WEB, &server(B)), Ok(DestId(2)));
+    bind(&mut dests, DestId(1), false);
+    hold(&mut dests, DestId(1));
     assert_eq!(rt; dests.remove(&WEB, A, 80), Ok(Removed::Trashed));
     assert_eq!(rt; dests.reap(), 0);
-    dests.unbind(DestId(1), false);
+    unbind(&mut dests, DestId(1), false);
     assert_eq!(rt; dests.reap(), 0);
-    dests.unhold(DestId(1));
+    unhold(&mut dests, DestId(1));
     assert_eq!(rt; dests.reap(), 1);
     assert!(rt; dests.get(DestId(1)).is_none());
     assert_eq!(rt; dests.get(DestId(2)).map(|d| d.live), Some(true));
@@ -193,13 +268,16 @@ fn a_trashed_server_is_released_once_nothing_names_it(rt: HostRuntime) -> Result
 fn refusals_come_in_their_order(rt: HostRuntime) -> Result<(), Fail> {
     let mut dests = Dests::new(rt.alloc())?;
     let crossed = with_thresholds(2, 3);
-    assert_eq!(rt; dests.add(&WEB, &crossed), Err(DestRefused::Thresholds));
+    assert_eq!(rt;
+        add(&mut dests, &WEB, &crossed),
+        Err(DestRefused::Thresholds)
+    );
     assert_eq!(rt; dests.edit(&WEB, &crossed), Err(DestRefused::NoDest));
     assert_eq!(rt; dests.remove(&WEB, A, 80), Err(DestRefused::NoDest));
-    assert_eq!(rt; dests.add(&WEB, &server(A)), Ok(DestId(1)));
-    assert_eq!(rt; dests.add(&WEB, &crossed), Err(DestRefused::Exists));
+    assert_eq!(rt; add(&mut dests, &WEB, &server(A)), Ok(DestId(1)));
+    assert_eq!(rt; add(&mut dests, &WEB, &crossed), Err(DestRefused::Exists));
     assert_eq!(rt; dests.edit(&WEB, &crossed), Err(DestRefused::Thresholds));
-    assert_eq!(rt; dests.add(&MARKED, &server(A)), Ok(DestId(2)));
+    assert_eq!(rt; add(&mut dests, &MARKED, &server(A)), Ok(DestId(2)));
     assert_eq!(rt; dests.remove(&MARKED, A, 81), Err(DestRefused::NoDest));
     Ok(())
 }

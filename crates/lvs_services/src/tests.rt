@@ -8,6 +8,22 @@ const VIRTUAL: Addr = Addr {
     number: 0x0A00_0001,
 };
 
+/// The web service's key, and the service by turns.
+const WEB: ServiceKey = ServiceKey::Net {
+    proto: Proto::Tcp,
+    addr: VIRTUAL,
+    port: 80,
+};
+
+const WEB_SERVICE: Service = Service {
+    key: WEB,
+    scheduler: Scheduler::Rr,
+    persist: None,
+    mask_bits: 32,
+    one_packet: false,
+    cursor: Cursor { last: None, cw: 0 },
+};
+
 const fn key(port: u16) -> ServiceKey {
     ServiceKey::Net {
         proto: Proto::Tcp,
@@ -57,9 +73,10 @@ fn a_refused_call_leaves_the_list_and_an_edit_resets_the_cursor(
         last: Some(DestId(3)),
         cw: 2,
     };
-    assert_eq!(rt; services.add(service(key(80))), Ok(()));
+    if services.add(WEB_SERVICE).is_ok() {
+        services.set_cursor(&WEB, turned);
+    }
     assert_eq!(rt; services.add(service(key(443))), Ok(()));
-    services.set_cursor(&key(80), turned);
     assert_eq!(rt; services.get(&key(80)).map(|s| s.cursor), Some(turned));
     assert_eq!(rt; services.add(service(key(80))), Err(ServiceRefused::Exists));
     assert_eq!(rt;
