@@ -11,3 +11,5 @@ pub mod ReleaseEdits
 pub mod ReleaseTaken
 pub mod ReleaseSteps
 pub mod ReleaseRuns
+pub mod SavePackets
+pub mod SaveEdits
