@@ -13,3 +13,4 @@ pub mod ReleaseSteps
 pub mod ReleaseRuns
 pub mod SavePackets
 pub mod SaveEdits
+pub mod SaveShown
