@@ -11,3 +11,6 @@ pub mod ReleaseEdits
 pub mod ReleaseTaken
 pub mod ReleaseSteps
 pub mod ReleaseRuns
+pub mod SavePackets
+pub mod SaveEdits
+pub mod SaveShown

@@ -3,3 +3,4 @@ pub mod TakingOver
 pub mod KeepExamples
 pub mod Releasing
 pub mod ReleaseExamples
+pub mod Saying

@@ -4,5 +4,6 @@
 pub mod keep;
 pub mod keep_examples;
 pub mod release;
+pub mod save;
 pub mod takeover;
 pub mod worked_releases;
