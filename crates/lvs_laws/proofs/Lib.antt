@@ -14,3 +14,6 @@ pub mod ReleaseRuns
 pub mod SavePackets
 pub mod SaveEdits
 pub mod SaveShown
+pub mod SaveNumbers
+pub mod SaveWords
+pub mod SaveLines

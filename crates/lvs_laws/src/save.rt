@@ -4,14 +4,16 @@ ghost use Rattle.std.specs.List.{AllByRecursion};
 ghost use Rattle.lvs_types.specs.declared.addr.Addr.{Addr};
 ghost use Rattle.lvs_types.specs.declared.item.Item.{Item};
 ghost use Rattle.lvs_types.specs.declared.command.Command.{Command};
+ghost use Rattle.lvs_types.specs.declared.command.Line.TheVariants.{Edit};
 ghost use Rattle.lvs_model.specs.State.{State, initial};
 ghost use Rattle.lvs_model.specs.Step.{step, run};
+ghost use Rattle.lvs_model.specs.AdminLines.{line_of_words};
 ghost use Rattle.lvs_model.specs.Listings.{save_text};
 ghost use Rattle.lvs_model.specs.Restoring.{restored};
 ghost use Rattle.lvs_model.specs.Snapshots.{snapshot_of};
 ghost use Rattle.lvs_model.specs.WellFormed.{IsWellFormed};
 ghost use Rattle.lvs_listing.specs.Savable.{IsSavable, HasTables, after};
-ghost use Rattle.lvs_laws.specs.Saying.{IsSayableItem, HasSayableTables};
+ghost use Rattle.lvs_laws.specs.Saying.{IsSayableCommand, IsSayableItem, HasSayableTables};
 
 /// Where words can say each service and each server, live or in the trash, they can after each step whose
 /// command, if it is one, is one that words can say; and so after each list of such items from the start.
@@ -32,4 +34,9 @@ pub fn commands_leave_savable_tables()
 /// director without services and servers one with the same tables.
 pub fn tables_that_commands_leave_come_back()
     ensures { (local : Addr) (buckets : ℕ) (items : List Item) → AllByRecursion IsSayableItem items → let tables = snapshot_of (run (initial local buckets) items).1 in (commands : List Command) × (restored (save_text tables) ≡ Ok commands) × ((s : State) → s.services ≡ [] → s.dests ≡ [] → HasTables tables (after s commands)) }
+{}
+
+/// The command of a line of words is one that words can say, whatever the words are.
+pub fn words_give_sayable_commands()
+    ensures { (words : List (List ℕ)) (given : Command) → line_of_words words ≡ Ok (Edit given) → IsSayableCommand given }
 {}
