@@ -1,7 +1,7 @@
 -- Edits, and each step, leave tables that words can say.
-use Rattle.std.proofs.Common.{◌≡◌, ◌==◌, ◌≤◌, ℕ, Bool, true, false, cond, not, ◌&&◌, List, [], ◌∷◌, ◌++◌, Option, Some, None, refl, sym, subst, map, nat_lt, ltb-false}
+use Rattle.std.proofs.Common.{◌≡◌, ℕ, Bool, true, false, cond, not, ◌&&◌, List, [], ◌∷◌, Option, Some, None, refl, sym, subst, map, ltb-false}
 use Rattle.std.proofs.lemmas.Bool.{and_parts}
-use Rattle.std.specs.List.{AllByRecursion, find, filter, filter_map}
+use Rattle.std.specs.List.{AllByRecursion, find, filter}
 use Rattle.lvs_types.specs.declared.addr.Addr.{Addr}
 use Rattle.lvs_types.specs.declared.service.ServiceKey.{ServiceKey}
 use Rattle.lvs_types.specs.declared.service.Service.{Service}
@@ -15,17 +15,17 @@ use Rattle.lvs_types.specs.declared.item.Item.{Item}
 use Rattle.lvs_types.specs.declared.item.Item.TheVariants as item
 use Rattle.lvs_model.specs.State.{State, initial}
 use Rattle.lvs_model.specs.Same.{service_key_eq, dest_eq}
-use Rattle.lvs_model.specs.Lists.{update_first, without}
+use Rattle.lvs_model.specs.Lists.{without}
 use Rattle.lvs_model.specs.Reading.{read}
 use Rattle.lvs_model.specs.Lookups.{has_dest_id, has_service_key, is_server_of, is_server_at, stands_at, servers_of}
-use Rattle.lvs_model.specs.Edits.{edit, fresh, fresh_cursor, is_service, is_server, has_bad_thresholds, add_service_by, edit_service_by, remove_service_by, remove_dests, leaving, clear, add_server_by, place_server, is_revivable, new_dest, revived, edit_server_by, respecified, server_before, step_back, remove_dest, remove_server_by, remove_server_at, start_master, start_backup, stop_master, stop_backup}
+use Rattle.lvs_model.specs.Edits.{edit, fresh, fresh_cursor, is_service, is_server, has_bad_thresholds, add_service_by, edit_service_by, remove_service_by, remove_dests, leaving, clear, add_server_by, place_server, is_revivable, new_dest, revived, edit_server_by, respecified, server_before, step_back, remove_server_by, remove_server_at, start_master, start_backup, stop_master, stop_backup}
 use Rattle.lvs_model.specs.Clock.{is_swept, after_ends, is_named_in, is_released, reaped_templates, sweep, reap}
 use Rattle.lvs_model.specs.Step.{step, run}
 use Rattle.lvs_well_formed.proofs.Lists.{all_weaker, all_map, all_push, all_filter, all_filter_map, all_update, find_passes}
 use Rattle.lvs_well_formed.proofs.Keys.{service_key_true}
 use Rattle.lvs_well_formed.proofs.Removals.{left_keeps}
 use Rattle.lvs_listing.specs.Savable.{IsSayableService, IsSayableServer}
-use Rattle.lvs_laws.specs.Saying.{IsSayableSpec, IsSayableCommand, IsSayableItem, IsSayableDest, AreSayableTables, HasSayableTables}
+use Rattle.lvs_laws.specs.Saying.{IsSayableSpec, IsSayableCommand, IsSayableItem, IsSayableDest, HasSayableTables}
 use Rattle.lvs_laws.proofs.SavePackets.{Keeps, keeps_itself, with_cursor_sayable, incoming_keeps, outgoing_keeps, learn_keeps}
 
 -- SERVICES

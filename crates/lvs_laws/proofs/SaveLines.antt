@@ -1,5 +1,5 @@
 -- The command of a line is one that words can say.
-use Rattle.std.proofs.Common.{◌≡◌, ℕ, ◌^◌, ◌≤◌, ◌<◌, Bool, true, false, not, ◌&&◌, cond, List, Option, Some, None, Result, Ok, Err, length, refl, subst, is_some, lit<, lit≤, arith}
+use Rattle.std.proofs.Common.{◌≡◌, ℕ, ◌^◌, ◌≤◌, ◌<◌, Bool, true, false, not, ◌&&◌, cond, List, Option, Some, None, Result, Ok, length, refl, subst, is_some, lit<, lit≤, arith}
 use Rattle.std.specs.Prelude.{unwrap_or}
 use Rattle.lvs_types.specs.declared.script.WordsCause.TheVariants as cause
 use Rattle.lvs_types.specs.declared.service.ServiceKey.{ServiceKey}

@@ -1,15 +1,12 @@
 -- A line of words gives only a command that words can say.
-use Rattle.std.proofs.Common.{◌≡◌, ℕ, ◌+◌, ◌^◌, ◌≤◌, ◌<◌, Bool, true, false, not, ◌&&◌, ◌||◌, cond, List, [], ◌∷◌, Option, Some, None, Result, Ok, Err, length, refl, subst, is_some, lit≤, lit<, arith}
+use Rattle.std.proofs.Common.{◌≡◌, ℕ, ◌+◌, ◌^◌, ◌≤◌, ◌<◌, Bool, true, false, not, ◌||◌, cond, List, [], ◌∷◌, Option, Some, None, Result, Ok, Err, refl, subst, lit≤, lit<, arith}
 use Rattle.std.specs.Prelude.{unwrap_or}
 use Rattle.lvs_types.specs.declared.script.WordsCause.{WordsCause}
 use Rattle.lvs_types.specs.declared.script.WordsCause.TheVariants as cause
 use Rattle.lvs_types.specs.declared.service.ServiceKey.{ServiceKey}
-use Rattle.lvs_types.specs.declared.service.ServiceKey.TheVariants.{Net, Mark}
-use Rattle.lvs_types.specs.declared.service.Proto.{Proto}
+use Rattle.lvs_types.specs.declared.service.ServiceKey.TheVariants.{Mark}
 use Rattle.lvs_types.specs.declared.service.Proto.TheVariants.{Tcp, Udp}
 use Rattle.lvs_types.specs.declared.service.Scheduler.{Scheduler}
-use Rattle.lvs_types.specs.declared.service.Method.{Method}
-use Rattle.lvs_types.specs.declared.service.Method.TheVariants.{Masq, Tunnel, Direct}
 use Rattle.lvs_model.specs.declared.admin.CommandName.{CommandName}
 use Rattle.lvs_model.specs.declared.admin.CommandName.TheVariants.{AddService, EditService, DeleteService, ClearTables, AddServer, EditServer, DeleteServer, ListTables, SaveTables, SetTimeouts, StartDaemon, StopDaemon}
 use Rattle.lvs_model.specs.declared.admin.OptionName.{OptionName}
@@ -21,10 +18,10 @@ use Rattle.lvs_model.specs.declared.admin.GivenService.{GivenService}
 use Rattle.lvs_model.specs.declared.admin.Endpoint.{Endpoint}
 use Rattle.lvs_model.specs.declared.admin.WordsRead.{WordsRead}
 use Rattle.lvs_model.specs.declared.admin.BadWord.{BadWord}
-use Rattle.lvs_model.specs.Refusals.{◌>>=◌, refused, needed}
+use Rattle.lvs_model.specs.Refusals.{◌>>=◌, needed}
 use Rattle.lvs_model.specs.Decimals.{is_number, number_between, endpoint_of, mask_of}
 use Rattle.lvs_model.specs.AdminTables.{command_of, option_of, allows, scheduler_of}
-use Rattle.lvs_model.specs.AdminWords.{is_dashed, is_given, is_second, with_option, take_known, take_named, take_option, service_at, role_of, with_service, take_value, take_timeout, take_awaited, take_word, take_words, awaited_after, begun, take_all}
+use Rattle.lvs_model.specs.AdminWords.{is_dashed, is_given, is_second, with_option, take_named, take_option, service_at, role_of, with_service, take_value, take_awaited, take_word, take_words, awaited_after, begun, take_all}
 use Rattle.lvs_listing.specs.Savable.{IsSayableKey}
 use Rattle.lvs_laws.proofs.SaveNumbers.{IfGiven, IsSayableEndpoint, between, endpoint_small, mask_small}
 
