@@ -6,4 +6,5 @@ pub mod keep_examples;
 pub mod release;
 pub mod save;
 pub mod takeover;
+pub mod worked_books;
 pub mod worked_releases;
