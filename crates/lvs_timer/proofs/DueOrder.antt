@@ -1,6 +1,7 @@
 -- Due lists: the place of a timer, and what is left of the order by a timer more or less.
 use Rattle.std.proofs.Common.{◌≡◌, ℕ, ◌+◌, ◌<◌, ◌≤◌, Bool, true, false, cond, not, List, [], ◌∷◌, ◌++◌, length, take, drop, get_or, None, refl, sym, ◌∙◌, ap, subst, arith, count_by, inl, inr, ◌⊎◌, zero, suc}
 use Rattle.std.specs.List.{AllByRecursion, AllWithin, filter, find}
+use Rattle.std.proofs.Math.Seq.{take-append_seam, drop-append_seam}
 use Rattle.std.proofs.lemmas.Bool.{leb-false, eqb-false, lt-leb, eq-eqb}
 use Rattle.std.proofs.lemmas.Bool.Decides.{nat_tests}
 use Rattle.std.proofs.lemmas.List.Elements.{filter-append}
@@ -156,19 +157,26 @@ order_filter p (t ∷ ts) order = order_kept (p t) t (filter p ts) (all_filter (
 
 -- ---- those that are due
 
-pub none_due : (now : ℕ) (t : Timer) (ts : List Timer) → IsInOrder (t ∷ ts) → is_due now t ≡ false → filter (is_due now) (t ∷ ts) ≡ []
+none_due : (now : ℕ) (t : Timer) (ts : List Timer) → IsInOrder (t ∷ ts) → is_due now t ≡ false → filter (is_due now) (t ∷ ts) ≡ []
 none_due now t ts order late =
     let past = leb-false t.deadline now late in
     filter_none (is_due now) (t ∷ ts) (late, all_weaker (λ u. is_before t u ≡ true) (λ u. is_due now u ≡ false) (λ u before. let up = deadline_up t u before in lt-leb u.deadline now (omega arith)) ts order.0)
 
 -- from a timer on that isn't due none is
-pub late_drop : (now : ℕ) (ts : List Timer) (i : ℕ) (d : Timer) → IsInOrder (drop i ts) → i < length ts → is_due now (get_or ts i d) ≡ false → filter (is_due now) (drop i ts) ≡ []
-late_drop now [] i d order within late = absurd (omega arith)
-late_drop now (t ∷ ts) zero d order within late = none_due now t ts order late
-late_drop now (t ∷ ts) (suc i) d order within late = late_drop now ts i d order (omega arith) late
+pub late_from : (now : ℕ) (t : Timer) (ts rest : List Timer) → ts ≡ t ∷ rest → IsInOrder ts → is_due now t ≡ false → filter (is_due now) ts ≡ []
+late_from now t ts rest is order late = ap (filter (is_due now)) is ∙ none_due now t rest (subst IsInOrder is order) late
 
 -- a list in order with a timer put in at its place is in order
 pub order_insert : (x : Timer) (ts : List Timer) (i : ℕ) → IsInOrder ts → find (has_id x.id) ts ≡ None → AllByRecursion (λ t. is_before t x ≡ true) (take i ts) → AllByRecursion (λ t. is_before t x ≡ false) (drop i ts) → IsInOrder (take i ts ++ x ∷ drop i ts)
 order_insert x ts i order new before late =
     order_put x (take i ts) (drop i ts) (subst IsInOrder (sym (rejoin ts i)) order) before
     (back_after x (take i ts) (drop i ts) (subst (λ us. find (has_id x.id) us ≡ None) (sym (rejoin ts i)) new) late)
+
+-- a queue in two parts, turned by the first of them
+turned_by : (front back : List Timer) (n : ℕ) → n ≡ length front → drop n (front ++ back) ++ take n (front ++ back) ≡ back ++ front
+turned_by front back n is = rw is (ap (λ (us : List Timer). us ++ take (length front) (front ++ back)) (drop-append_seam front back) ∙ ap (λ (us : List Timer). back ++ us) (take-append_seam front back))
+
+-- a queue that was turned to a place, and back once a timer was put in front
+pub turned_back : (x : Timer) (ts turned put left : List Timer) (i n : ℕ) → turned ≡ drop i ts ++ take i ts → put ≡ x ∷ turned → left ≡ drop n put ++ take n put → n ≡ suc (length (drop i ts)) → left ≡ take i ts ++ x ∷ drop i ts
+turned_back x ts turned put left i n one two three is =
+    three ∙ ap (λ (us : List Timer). drop n us ++ take n us) (two ∙ ap (λ (us : List Timer). x ∷ us) one) ∙ turned_by (x ∷ drop i ts) (take i ts) n is

@@ -8,34 +8,40 @@ ghost use Rattle.lvs_timer.specs.Shelves.{IsInOrder, Has, IsEntered};
 use crate::timer::Timer;
 use lvs_types::{NoMemory, Steps};
 use std::alloc::Global;
+use std::collections::VecDeque;
 use std::marker::Model;
 use std::sync::ledger::Ledger;
 
-/// Timers in order of deadline and then id.
+/// A list has room for at most so many timers, which fill all memory, so that the steps over all
+/// lists can be counted.
+const MOST: usize = 1 << 59;
+
+/// Timers in order of deadline and then id. A queue, since a sweep takes the earliest.
 #[derive(Debug, Drop)]
 pub(crate) struct Shelf {
-    timers: Vec<Timer>,
+    timers: VecDeque<Timer>,
 }
 
 impl Model for Shelf {
-    ghost use Rattle.std.specs.Prelude.{◌-◌, vec_len, vec_capacity};
+    ghost use Rattle.std.specs.Prelude.{◌-◌, ◌≤◌, ◌^◌};
+    ghost use Rattle.std.specs.VecDeque.{deque_len, deque_capacity};
     ghost use Rattle.lvs_timer.specs.Seen.{ShelfSeen};
 
     ghost Value = { ShelfSeen };
 
     ghost use Rattle.lvs_timer.specs.Shelves.{IsInOrder};
 
-    ghost view = { λ s. record { timers = s.timers.items; spare = vec_capacity s.timers - vec_len s.timers } };
+    ghost view = { λ s. record { timers = s.timers.items; spare = deque_capacity s.timers - deque_len s.timers } };
 
-    ghost invariant = { λ s. IsInOrder s.timers.items };
+    ghost invariant = { λ s. IsInOrder s.timers.items × (deque_capacity s.timers ≤ 2 ^ 59) };
 }
 
 /// How many timers stand before a timer.
-fn place_of(timers: &[Timer], timer: &Timer) -> usize
-    requires { IsInOrder timers.now }
-    ensures within { result ≤ length timers.now }
-    ensures front { AllByRecursion (λ t. is_before_by t timer.now ≡ true) (take result timers.now) }
-    ensures back { AllByRecursion (λ t. is_before_by t timer.now ≡ false) (drop result timers.now) }
+fn place_of(timers: &VecDeque<Timer>, timer: &Timer) -> usize
+    requires { IsInOrder timers.now.items }
+    ensures within { result ≤ length timers.now.items }
+    ensures front { AllByRecursion (λ t. is_before_by t timer.now ≡ true) (take result timers.now.items) }
+    ensures back { AllByRecursion (λ t. is_before_by t timer.now ≡ false) (drop result timers.now.items) }
 {
     timers.partition_point(|t| t.is_before(timer))
 }
@@ -45,7 +51,7 @@ impl Shelf {
         ensures { result.timers ≡ [] }
     {
         Shelf {
-            timers: Vec::new(alloc),
+            timers: VecDeque::from_vec(Vec::new(alloc)),
         }
     }
 
@@ -55,7 +61,15 @@ impl Shelf {
         ensures ok { OnOk result (room ≤ self.new.spare) }
         ensures kept { self.old.spare ≤ self.new.spare }
     {
-        self.timers.reserve(room)?;
+        let count = self.timers.len();
+        if room <= self.timers.capacity() - count {
+            return Ok(());
+        }
+        if MOST - count < room {
+            return Err(NoMemory);
+        }
+        self.timers
+            .reserve_exact(room.max(count).min(MOST - count))?;
         Ok(())
     }
 
@@ -67,8 +81,10 @@ impl Shelf {
         ensures spare { self.new.spare + 1 ≡ self.old.spare }
     {
         let place = place_of(&self.timers, &timer);
-        let put: Result<_, _> = self.timers.insert(place, timer);
-        put.unwrap();
+        // By turns, since `insert` doesn't say that the room for the others stays.
+        self.timers.rotate_left(place);
+        self.timers.push_front_reserved(timer);
+        self.timers.rotate_right(place);
     }
 
     /// Takes out a timer that is there, and whose id is there once.
