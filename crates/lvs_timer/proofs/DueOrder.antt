@@ -1,7 +1,6 @@
 -- Due lists: the place of a timer, and what is left of the order by a timer more or less.
 use Rattle.std.proofs.Common.{◌≡◌, ℕ, ◌+◌, ◌<◌, ◌≤◌, Bool, true, false, cond, not, List, [], ◌∷◌, ◌++◌, length, take, drop, get_or, None, refl, sym, ◌∙◌, ap, subst, arith, count_by, inl, inr, ◌⊎◌, zero, suc}
 use Rattle.std.specs.List.{AllByRecursion, AllWithin, filter, find}
-use Rattle.std.proofs.Math.Seq.{take-append_seam, drop-append_seam}
 use Rattle.std.proofs.lemmas.Bool.{leb-false, eqb-false, lt-leb, eq-eqb}
 use Rattle.std.proofs.lemmas.Bool.Decides.{nat_tests}
 use Rattle.std.proofs.lemmas.List.Elements.{filter-append}
@@ -171,12 +170,3 @@ pub order_insert : (x : Timer) (ts : List Timer) (i : ℕ) → IsInOrder ts → 
 order_insert x ts i order new before late =
     order_put x (take i ts) (drop i ts) (subst IsInOrder (sym (rejoin ts i)) order) before
     (back_after x (take i ts) (drop i ts) (subst (λ us. find (has_id x.id) us ≡ None) (sym (rejoin ts i)) new) late)
-
--- a queue in two parts, turned by the first of them
-turned_by : (front back : List Timer) (n : ℕ) → n ≡ length front → drop n (front ++ back) ++ take n (front ++ back) ≡ back ++ front
-turned_by front back n is = rw is (ap (λ (us : List Timer). us ++ take (length front) (front ++ back)) (drop-append_seam front back) ∙ ap (λ (us : List Timer). back ++ us) (take-append_seam front back))
-
--- a queue that was turned to a place, and back once a timer was put in front
-pub turned_back : (x : Timer) (ts turned put left : List Timer) (i n : ℕ) → turned ≡ drop i ts ++ take i ts → put ≡ x ∷ turned → left ≡ drop n put ++ take n put → n ≡ suc (length (drop i ts)) → left ≡ take i ts ++ x ∷ drop i ts
-turned_back x ts turned put left i n one two three is =
-    three ∙ ap (λ (us : List Timer). drop n us ++ take n us) (two ∙ ap (λ (us : List Timer). x ∷ us) one) ∙ turned_by (x ∷ drop i ts) (take i ts) n is

@@ -12,18 +12,14 @@ use std::collections::VecDeque;
 use std::marker::Model;
 use std::sync::ledger::Ledger;
 
-/// A list has room for at most so many timers, which fill all memory, so that the steps over all
-/// lists can be counted.
-const MOST: usize = 1 << 59;
-
-/// Timers in order of deadline and then id. A queue, since a sweep takes the earliest.
+/// Timers in order of deadline and then id: a queue, since a sweep takes the earliest.
 #[derive(Debug, Drop)]
 pub(crate) struct Shelf {
     timers: VecDeque<Timer>,
 }
 
 impl Model for Shelf {
-    ghost use Rattle.std.specs.Prelude.{◌-◌, ◌≤◌, ◌^◌};
+    ghost use Rattle.std.specs.Prelude.{◌-◌};
     ghost use Rattle.std.specs.VecDeque.{deque_len, deque_capacity};
     ghost use Rattle.lvs_timer.specs.Seen.{ShelfSeen};
 
@@ -33,7 +29,7 @@ impl Model for Shelf {
 
     ghost view = { λ s. record { timers = s.timers.items; spare = deque_capacity s.timers - deque_len s.timers } };
 
-    ghost invariant = { λ s. IsInOrder s.timers.items × (deque_capacity s.timers ≤ 2 ^ 59) };
+    ghost invariant = { λ s. IsInOrder s.timers.items };
 }
 
 /// How many timers stand before a timer.
@@ -61,15 +57,7 @@ impl Shelf {
         ensures ok { OnOk result (room ≤ self.new.spare) }
         ensures kept { self.old.spare ≤ self.new.spare }
     {
-        let count = self.timers.len();
-        if room <= self.timers.capacity() - count {
-            return Ok(());
-        }
-        if MOST - count < room {
-            return Err(NoMemory);
-        }
-        self.timers
-            .reserve_exact(room.max(count).min(MOST - count))?;
+        self.timers.reserve(room)?;
         Ok(())
     }
 
@@ -78,13 +66,11 @@ impl Shelf {
         requires room { 0 < self.old.spare }
         requires new { find (has_id timer.id) self.old.timers ≡ None }
         ensures timers { IsEntered timer self.old.timers self.new.timers }
-        ensures spare { self.new.spare + 1 ≡ self.old.spare }
+        ensures spare { self.old.spare ≤ self.new.spare + 1 }
     {
         let place = place_of(&self.timers, &timer);
-        // By turns, since `insert` doesn't say that the room for the others stays.
-        self.timers.rotate_left(place);
-        self.timers.push_front_reserved(timer);
-        self.timers.rotate_right(place);
+        let put: Result<_, _> = self.timers.insert(place, timer);
+        put.unwrap();
     }
 
     /// Takes out a timer that is there, and whose id is there once.
@@ -106,10 +92,10 @@ impl Shelf {
         ids: &mut Vec<u64>,
         steps: &mut Steps<L>,
     ) -> Result<(), NoMemory>
-        requires { steps.old < 2 ^ 63 + 2 ^ 62 + 2 ^ 10 }
+        requires { steps.old < length ids.old.items + 2 ^ 62 + 2 ^ 10 }
         ensures ok { OnOk result (ids.new.items ≡ ids.old.items ++ ids_of (filter (is_due now) self.now.timers)) }
         ensures steps { steps.new ≤ steps.old + count_by (is_due now) self.now.timers + 1 }
-        ensures bound { steps.new ≤ steps.old + 2 ^ 59 + 1 }
+        ensures listed { steps.new + length ids.old.items ≤ steps.old + length ids.new.items + 1 }
     {
         for timer in &self.timers {
             steps.tick();

@@ -1,4 +1,4 @@
-use Rattle.std.proofs.Common.{◌≡◌, ◌≤◌, ◌+◌, ◌^◌, ◌++◌, length, count_by}
+use Rattle.std.proofs.Common.{◌≡◌, ◌≤◌, ◌+◌, ◌++◌, length, count_by}
 use Rattle.std.specs.List.{filter}
 use Rattle.std.specs.VecDeque.Iter.{deque_iter_rest}
 use Rattle.lvs_timer.specs.Timers.{is_due, ids_of}
@@ -12,5 +12,5 @@ invariant-loop-timer g l = record {
   order : IsInOrder (deque_iter_rest l.timer-iterator);
   so_far : l.ids.items ++ ids_of (filter (is_due l.now) (deque_iter_rest l.timer-iterator)) ≡ l.initial.ids.items ++ ids_of (filter (is_due l.now) l.self.timers);
   counted : l.steps + count_by (is_due l.now) (deque_iter_rest l.timer-iterator) ≤ l.initial.steps + count_by (is_due l.now) l.self.timers;
-  bound : l.steps + length (deque_iter_rest l.timer-iterator) ≤ l.initial.steps + 2 ^ 59;
+  listed : l.steps + length l.initial.ids.items ≤ l.initial.steps + length l.ids.items;
 }

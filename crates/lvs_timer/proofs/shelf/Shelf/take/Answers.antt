@@ -12,10 +12,10 @@ invariant_of-self c =
     let ts = c.self.inside.timers.items in
     let has = subst (λ (v : ShelfSeen). Has x v.timers) (sym c.self.view_is) c.requires.there in
     let once = subst (λ (v : ShelfSeen). count_by (has_id x.id) v.timers ≤ 1) (sym c.self.view_is) c.requires.once in
-    let head = stands x ts c.place_of-place.result c.self.invariant.0 has c.place_of-place.ensures.front c.place_of-place.ensures.back in
+    let head = stands x ts c.place_of-place.result c.self.invariant has c.place_of-place.ensures.front c.place_of-place.ensures.back in
     let within = head_within x ts head.rest c.place_of-place.result head.is in
     let items : c.remove.new.self.items ≡ take c.place_of-place.result ts ++ drop (suc c.place_of-place.result) ts = rw (c.remove.ensures.succeeds x (omega arith)) at c.remove.ensures.items in
-    (subst IsInOrder (sym (items ∙ removed x ts c.place_of-place.result head once)) (order_filter (λ t. not (has_id x.id t)) ts c.self.invariant.0), rw c.remove.ensures.capacity c.self.invariant.1)
+    subst IsInOrder (sym (items ∙ removed x ts c.place_of-place.result head once)) (order_filter (λ t. not (has_id x.id t)) ts c.self.invariant)
 
 pub returns-clause-timers : goal.returns-clause-timers
 returns-clause-timers c =
@@ -23,7 +23,7 @@ returns-clause-timers c =
     let ts = c.self.inside.timers.items in
     let has = subst (λ (v : ShelfSeen). Has x v.timers) (sym c.self.view_is) c.requires.there in
     let once = subst (λ (v : ShelfSeen). count_by (has_id x.id) v.timers ≤ 1) (sym c.self.view_is) c.requires.once in
-    let head = stands x ts c.place_of-place.result c.self.invariant.0 has c.place_of-place.ensures.front c.place_of-place.ensures.back in
+    let head = stands x ts c.place_of-place.result c.self.invariant has c.place_of-place.ensures.front c.place_of-place.ensures.back in
     let within = head_within x ts head.rest c.place_of-place.result head.is in
     let items : c.remove.new.self.items ≡ take c.place_of-place.result ts ++ drop (suc c.place_of-place.result) ts = rw (c.remove.ensures.succeeds x (omega arith)) at c.remove.ensures.items in
     items ∙ removed x ts c.place_of-place.result head once ∙ ap (λ (v : ShelfSeen). without (has_id x.id) v.timers) c.self.view_is
