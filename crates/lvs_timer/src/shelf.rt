@@ -47,7 +47,7 @@ impl Shelf {
         ensures { result.timers ≡ [] }
     {
         Shelf {
-            timers: VecDeque::from_vec(Vec::new(alloc)),
+            timers: VecDeque::new(alloc),
         }
     }
 
