@@ -1,4 +1,4 @@
-use Rattle.std.proofs.Common.{◌≡◌, ◌<◌, ◌^◌, arith}
+use Rattle.std.proofs.Common.{arith}
 use Rattle.lvs_times.proofs.Fresh.{new_timer, timers_below, timers_timed}
 use Rattle.lvs_times.proofs.filling.arm_all.Goals as goal
 

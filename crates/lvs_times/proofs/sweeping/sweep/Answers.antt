@@ -1,7 +1,5 @@
-use Rattle.std.proofs.Common.{◌≡◌, ◌∙◌, ap, sym, subst, arith, drop, ◌∷◌, List, ℕ}
-use Rattle.std.specs.List.{AllByRecursion}
-use Rattle.lvs_times.specs.Numbered.{IsTimed}
-use Rattle.lvs_times.proofs.Due.{IsRising, IsArmed, rising_from, armed_all, rising_next, armed_next, timed_next}
+use Rattle.std.proofs.Common.{arith}
+use Rattle.lvs_times.proofs.Due.{rising_from, armed_all, rising_next, armed_next, timed_next}
 use Rattle.lvs_times.proofs.sweeping.sweep.Goals as goal
 
 pub loop-id-init : goal.loop-id-init
