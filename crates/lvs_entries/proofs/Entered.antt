@@ -1,5 +1,5 @@
 -- A store after an insertion is a store, with the entry at its place.
-use Rattle.std.proofs.Common.{◌≡◌, ℕ, ◌+◌, ◌-◌, ◌<◌, ◌≤◌, Bool, true, false, cond, ◌==◌, List, [], ◌∷◌, ◌++◌, length, Option, Some, None, refl, sym, ◌∙◌, ap, subst, arith, get_or, set, count_by}
+use Rattle.std.proofs.Common.{◌≡◌, ℕ, ◌+◌, ◌-◌, ◌<◌, ◌≤◌, Bool, true, false, cond, ◌==◌, List, [], ◌∷◌, ◌++◌, length, Option, Some, None, refl, sym, ◌∙◌, ap, subst, arith, get_or, set, count_by, zero, suc}
 use Rattle.std.specs.List.{AllByRecursion, find}
 use Rattle.std.proofs.lemmas.Bool.{eqb-true, eqb-false, eq-eqb}
 use Rattle.std.proofs.lemmas.List.{length-set}
@@ -13,8 +13,8 @@ use Rattle.lvs_entries.specs.Seen.{ChainSeen}
 use Rattle.lvs_entries.specs.Store.{Belongs, AreChained, IsStore, all_of, entries_in}
 use Rattle.lvs_entries.proofs.Order.{all_weaker, sorted_put}
 use Rattle.lvs_entries.proofs.Listed.{id_of}
-use Rattle.lvs_entries.proofs.Passing.{filter_none, none_found, find_sorted, count_put}
-use Rattle.lvs_entries.proofs.Chained.{IsPut, chain_at, chained_set, chained_moved, put_at, join_front, all_join}
+use Rattle.lvs_entries.proofs.Passing.{filter_none, none_found, find_none, find_sorted, count_put}
+use Rattle.lvs_entries.proofs.Chained.{IsPut, chain_at, chained_set, chained_moved, put_at, join_front, join_back, all_join}
 use Rattle.lvs_entries.proofs.Belonging.{key_same}
 use Rattle.lvs_entries.proofs.Kept.{room_write, room_less, room_at, places_kept}
 
@@ -30,6 +30,18 @@ put_once p x front back true is none once =
 put_once p x front back false is none once =
     let whole = count_put p x front back ∙ ap (λ (b : Bool). cond b 1 0 + count_by p (front ++ back)) is in
     omega arith
+
+-- what holds of all entries holds of those of a chain
+part_at : (P : Entry → Type 0) (i : ℕ) (d : ChainSeen) (chains : List ChainSeen) → i < length chains → AllByRecursion P (all_of chains) → AllByRecursion P (get_or chains i d).entries
+part_at P i d [] within all = absurd (omega arith)
+part_at P zero d (c ∷ chains) within all = join_front P c.entries (all_of chains) all
+part_at P (suc i) d (c ∷ chains) within all = part_at P i d chains (omega arith) (join_back P c.entries (all_of chains) all)
+
+-- an id that is new to the store is new to each chain
+pub new_in_chain : (chains : List ChainSeen) (place : ℕ → Option ℕ) (spare room : ℕ) → IsStore chains place spare room → (id k : ℕ) (d : ChainSeen) → k < 256 → find (has_entry_id id) (entries_in chains) ≡ None → find (has_entry_id id) (get_or chains k d).entries ≡ None
+new_in_chain chains place spare room store id k d below new_id =
+    let none : AllByRecursion (λ (e : Entry). has_entry_id id e ≡ false) (all_of chains) = none_found (has_entry_id id) (all_of chains) (sym (find_sorted id_of (has_entry_id id) (all_of chains) (all_of chains) (store.ids id) refl) ∙ new_id) in
+    find_none (has_entry_id id) (get_or chains k d).entries (part_at (λ (e : Entry). has_entry_id id e ≡ false) k d chains (let count = store.count in omega arith) none)
 
 module _ (chains : List ChainSeen) (place : ℕ → Option ℕ) (spare room : ℕ) (store : IsStore chains place spare room) (v : Entry) (k : ℕ) (c d : ChainSeen) (is : k ≡ key_chain v.key) (below : k < 256)
     (new_id : find (has_entry_id v.id) (entries_in chains) ≡ None) (new_key : entry_at v.key (entries_in chains) ≡ None) (pushed : c.entries ≡ (get_or chains k d).entries ++ v ∷ []) where
@@ -66,7 +78,7 @@ module _ (chains : List ChainSeen) (place : ℕ → Option ℕ) (spare room : �
   key_new : (key : Key) → has_key key v ≡ true → AllByRecursion (λ (e : Entry). has_key key e ≡ false) (all_of chains)
   key_new key passes = subst (λ (other : Key). AllByRecursion (λ (e : Entry). has_key other e ≡ false) (all_of chains)) (key_same v.key key passes) no_key
 
-  pub store_entered : (place' : ℕ → Option ℕ) (spare' : ℕ) → ((q : ℕ) → place' q ≡ cond (v.id == q) (Some k) (place q)) → spare ≤ spare' + 1 → c.spare + 1 ≡ (get_or chains k d).spare → 0 < room → IsStore (set chains k c) place' spare' (room - 1)
+  pub store_entered : (place' : ℕ → Option ℕ) (spare' : ℕ) → ((q : ℕ) → place' q ≡ cond (v.id == q) (Some k) (place q)) → spare ≤ spare' + 1 → (get_or chains k d).spare ≤ c.spare + 1 → 0 < room → IsStore (set chains k c) place' spare' (room - 1)
   store_entered place' spare' update more used some =
       let chained : AreChained place' 0 chains = chained_moved place place' 0 chains store.chained (places_kept v.id (Some k) place place' update (all_of chains) others) in
       let own : place' v.id ≡ Some k = update v.id ∙ ap (λ (b : Bool). cond b (Some k) (place v.id)) (eq-eqb v.id v.id refl) in

@@ -8,6 +8,8 @@ pub mod Passing
 pub mod Chained
 pub mod Belonging
 pub mod Looking
+pub mod Keyed
+pub mod Taken
 pub mod Kept
 pub mod Renewed
 pub mod Entered

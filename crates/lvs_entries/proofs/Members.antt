@@ -155,6 +155,16 @@ sorted_once number xs ys moved order once =
     (λ x has. has_sorted number x xs (has_contained x xs (Contains-permutation ys xs x (IsPermutation-sym xs ys moved) (contains_from x ys has))))
     (λ x has. has_contained x ys (Contains-permutation xs ys x moved (contains_from x xs (from_sorted number x xs has))))
 
+-- lists with the same members, each number there once, are the same in order
+pub sorted_moved : {X : Type 0} (number : X → ℕ) (xs ys : List X) → IsPermutation xs ys → ((n : ℕ) → count_by (λ y. number y == n) xs ≤ 1) → sorted_by number xs ≡ sorted_by number ys
+sorted_moved number xs ys moved once =
+    same_strict number (sorted_by number xs) (sorted_by number ys)
+    (strict_from number (sorted_by number xs) (sorted_up number xs) (λ n. let same = count_sorted number (λ y. number y == n) xs in let few = once n in omega arith))
+    (strict_from number (sorted_by number ys) (sorted_up number ys)
+    (λ n. let same = count_sorted number (λ y. number y == n) ys in let moves = sum_by-IsPermutation (λ y. cond (number y == n) 1 0) xs ys moved in let few = once n in omega arith))
+    (λ x has. has_sorted number x ys (has_contained x ys (Contains-permutation xs ys x moved (contains_from x xs (from_sorted number x xs has)))))
+    (λ x has. has_sorted number x xs (has_contained x xs (Contains-permutation ys xs x (IsPermutation-sym xs ys moved) (contains_from x ys (from_sorted number x ys has)))))
+
 rising_at : {X : Type 0} (number : X → ℕ) (ys : List X) → IsStrict number ys → (k : ℕ) → suc k < length (map number ys) → get_or (map number ys) k 0 < get_or (map number ys) (suc k) 0
 rising_at number [] strict k within = absurd (omega arith)
 rising_at number (y ∷ []) strict k within = absurd (omega arith)

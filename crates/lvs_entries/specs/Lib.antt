@@ -1,4 +1,5 @@
 pub mod Chains
 pub mod Seen
 pub mod Least
+pub mod Keyed
 pub mod Store

@@ -1,36 +1,77 @@
 //! One chain: the entries of one chain number.
-ghost use Rattle.std.specs.Prelude.{◌≡◌, ◌<◌, ◌≤◌, ◌+◌, ◌-◌, ◌^◌, ◌∷◌, ◌++◌, [], length, OnOk, OnErr};
-ghost use Rattle.std.specs.List.{find, position};
+ghost use Rattle.std.specs.Prelude.{◌≡◌, ◌<◌, ◌≤◌, ◌+◌, ◌-◌, ◌^◌, ◌∷◌, ◌++◌, [], length, OnOk, OnErr, None};
+ghost use Rattle.std.specs.List.{find};
 ghost use Rattle.std.specs.Option.{option_copied};
-ghost use Rattle.lvs_model.specs.Lists.{without};
 ghost use Rattle.lvs_model.specs.Lookups.{has_entry_id, entry_at, reply_entry};
 ghost use Rattle.lvs_model.specs.Binding.{put_entry};
+ghost use Rattle.lvs_entries.specs.Keyed.{IsTaken};
 
 use crate::reply::{ReplySides, lower};
+use indexmap::IndexMap;
 use lvs_types::{Entry, Key, NoMemory, Steps};
 use std::alloc::Global;
 use std::marker::Model;
 use std::sync::ledger::Ledger;
 
-fn place_of(entries: &[Entry], id: u64) -> Option<usize>
-    ensures { result ≡ position (has_entry_id id) entries.now }
-{
-    entries.iter().position(|e| e.id == id)
-}
-
-/// The entries of one chain number, in order of insertion.
+/// The entries of one chain number, each found by its id without a walk.
 #[derive(Debug, Drop)]
 pub(crate) struct Chain {
-    entries: Vec<Entry>,
+    entries: IndexMap<u64, Entry>,
 }
 
 impl Model for Chain {
-    ghost use Rattle.std.specs.Prelude.{◌-◌, vec_len, vec_capacity};
+    ghost use Rattle.indexmap.specs.IndexMap.{values, spare};
     ghost use Rattle.lvs_entries.specs.Seen.{ChainSeen};
 
     ghost Value = { ChainSeen };
 
-    ghost view = { λ c. record { entries = c.entries.items; spare = vec_capacity c.entries - vec_len c.entries } };
+    ghost use Rattle.lvs_entries.specs.Keyed.{AreKeyed};
+
+    ghost view = { λ c. record { entries = values c.entries; spare = spare c.entries } };
+
+    ghost invariant = { λ c. AreKeyed c.entries.entries };
+}
+
+/// The first entry of a key. A step is one entry compared.
+fn first_of_key<'a, L: Ledger>(
+    entries: &'a [Entry],
+    key: &Key,
+    steps: &mut Steps<L>,
+) -> Option<&'a Entry>
+    requires { steps.old < 2 ^ 63 }
+    ensures found { option_copied result ≡ entry_at key.now entries.now }
+    ensures steps { steps.new ≤ steps.old + length entries.now }
+    ensures bound { steps.new ≤ steps.old + 2 ^ 58 }
+{
+    for e in entries {
+        steps.tick();
+        if e.key == *key {
+            return Some(e);
+        }
+    }
+    None
+}
+
+/// The entry of a reply: the one of least id. A step is one entry compared.
+#[tactic(auto, using(crate::proofs::Least::lead_more))]
+fn least_of_reply<'a, L: Ledger>(
+    entries: &'a [Entry],
+    sides: &ReplySides,
+    steps: &mut Steps<L>,
+) -> Option<&'a Entry>
+    requires { steps.old < 2 ^ 63 }
+    ensures found { option_copied result ≡ reply_entry sides.now.proto sides.now.daddr sides.now.dport sides.now.caddr sides.now.cport entries.now }
+    ensures steps { steps.new ≤ steps.old + length entries.now }
+    ensures bound { steps.new ≤ steps.old + 2 ^ 58 }
+{
+    let mut least = None;
+    for e in entries {
+        steps.tick();
+        if sides.are_of(e) {
+            least = Some(lower(least, e));
+        }
+    }
+    least
 }
 
 impl Chain {
@@ -38,7 +79,7 @@ impl Chain {
         ensures { result.entries ≡ [] }
     {
         Chain {
-            entries: Vec::new(alloc),
+            entries: IndexMap::new(alloc),
         }
     }
 
@@ -52,13 +93,15 @@ impl Chain {
         Ok(())
     }
 
-    /// Puts in one more.
+    /// Puts in one more, with a new id.
     pub(crate) fn push(&mut self, entry: Entry)
-        requires { 0 < self.old.spare }
+        requires room { 0 < self.old.spare }
+        requires new_id { find (has_entry_id entry.id) self.old.entries ≡ None }
         ensures entries { self.new.entries ≡ self.old.entries ++ entry ∷ [] }
-        ensures spare { self.new.spare + 1 ≡ self.old.spare }
+        ensures spare { self.old.spare ≤ self.new.spare + 1 }
     {
-        self.entries.push_reserved(entry);
+        let pushed: Result<_, _> = self.entries.insert(entry.id, entry);
+        let _ = pushed.unwrap();
     }
 
     /// Puts an entry in the place of the one of its id.
@@ -66,68 +109,57 @@ impl Chain {
         ensures entries { self.new.entries ≡ put_entry entry self.old.entries }
         ensures spare { self.new.spare ≡ self.old.spare }
     {
-        if let Some(place) = place_of(&self.entries, entry.id) {
-            self.entries[place] = entry;
-        }
+        let Some(old) = self.entries.get_mut(&entry.id) else {
+            return;
+        };
+        *old = entry;
     }
 
-    /// Takes out the entry of an id.
+    /// Takes out the entry of an id: the last one takes its place.
     pub(crate) fn remove(&mut self, id: u64) -> Option<Entry>
         ensures removed { result ≡ find (has_entry_id id) self.old.entries }
-        ensures entries { self.new.entries ≡ without (has_entry_id id) self.old.entries }
+        ensures taken { IsTaken result self.old.entries self.new.entries }
         ensures spare { self.old.spare ≤ self.new.spare }
     {
-        let removed = self.get(id).copied();
-        self.entries.retain(|e| e.id != id);
-        removed
+        let place = self.entries.get_index_of(&id)?;
+        let (_, removed) = self.entries.swap_remove_index(place)?;
+        Some(removed)
     }
 
     /// The entry of an id.
     pub(crate) fn get(&self, id: u64) -> Option<&Entry>
         ensures { option_copied result ≡ find (has_entry_id id) self.now.entries }
     {
-        self.entries.iter().find(|e| e.id == id)
+        self.entries.get(&id)
     }
 
     /// The entry of a key. A step is one entry compared.
     pub(crate) fn find_key<L: Ledger>(&self, key: &Key, steps: &mut Steps<L>) -> Option<&Entry>
-        requires { steps.old < 2 ^ 62 }
+        requires { steps.old < 2 ^ 63 }
         ensures found { option_copied result ≡ entry_at key.now self.now.entries }
         ensures steps { steps.new ≤ steps.old + length self.now.entries }
+        ensures bound { steps.new ≤ steps.old + 2 ^ 58 }
     {
-        for e in &self.entries {
-            steps.tick();
-            if e.key == *key {
-                return Some(e);
-            }
-        }
-        None
+        first_of_key(self.as_slice(), key, steps)
     }
 
     /// The entry of a reply: the one of least id. A step is one entry compared.
-    #[tactic(auto, using(crate::proofs::Least::lead_more))]
     pub(crate) fn find_reply<L: Ledger>(
         &self,
         sides: &ReplySides,
         steps: &mut Steps<L>,
     ) -> Option<&Entry>
-        requires { steps.old < 2 ^ 62 }
+        requires { steps.old < 2 ^ 63 }
         ensures found { option_copied result ≡ reply_entry sides.now.proto sides.now.daddr sides.now.dport sides.now.caddr sides.now.cport self.now.entries }
         ensures steps { steps.new ≤ steps.old + length self.now.entries }
+        ensures bound { steps.new ≤ steps.old + 2 ^ 58 }
     {
-        let mut least = None;
-        for e in &self.entries {
-            steps.tick();
-            if sides.are_of(e) {
-                least = Some(lower(least, e));
-            }
-        }
-        least
+        least_of_reply(self.as_slice(), sides, steps)
     }
 
     pub(crate) fn as_slice(&self) -> &[Entry]
         ensures { result.now ≡ self.now.entries }
     {
-        &self.entries
+        self.entries.values().as_slice()
     }
 }

@@ -156,16 +156,14 @@ order_filter p (t ∷ ts) order = order_kept (p t) t (filter p ts) (all_filter (
 
 -- ---- those that are due
 
-pub none_due : (now : ℕ) (t : Timer) (ts : List Timer) → IsInOrder (t ∷ ts) → is_due now t ≡ false → filter (is_due now) (t ∷ ts) ≡ []
+none_due : (now : ℕ) (t : Timer) (ts : List Timer) → IsInOrder (t ∷ ts) → is_due now t ≡ false → filter (is_due now) (t ∷ ts) ≡ []
 none_due now t ts order late =
     let past = leb-false t.deadline now late in
     filter_none (is_due now) (t ∷ ts) (late, all_weaker (λ u. is_before t u ≡ true) (λ u. is_due now u ≡ false) (λ u before. let up = deadline_up t u before in lt-leb u.deadline now (omega arith)) ts order.0)
 
 -- from a timer on that isn't due none is
-pub late_drop : (now : ℕ) (ts : List Timer) (i : ℕ) (d : Timer) → IsInOrder (drop i ts) → i < length ts → is_due now (get_or ts i d) ≡ false → filter (is_due now) (drop i ts) ≡ []
-late_drop now [] i d order within late = absurd (omega arith)
-late_drop now (t ∷ ts) zero d order within late = none_due now t ts order late
-late_drop now (t ∷ ts) (suc i) d order within late = late_drop now ts i d order (omega arith) late
+pub late_from : (now : ℕ) (t : Timer) (ts rest : List Timer) → ts ≡ t ∷ rest → IsInOrder ts → is_due now t ≡ false → filter (is_due now) ts ≡ []
+late_from now t ts rest is order late = ap (filter (is_due now)) is ∙ none_due now t rest (subst IsInOrder is order) late
 
 -- a list in order with a timer put in at its place is in order
 pub order_insert : (x : Timer) (ts : List Timer) (i : ℕ) → IsInOrder ts → find (has_id x.id) ts ≡ None → AllByRecursion (λ t. is_before t x ≡ true) (take i ts) → AllByRecursion (λ t. is_before t x ≡ false) (drop i ts) → IsInOrder (take i ts ++ x ∷ drop i ts)

@@ -103,7 +103,7 @@ module _ (shelves : List ShelfSeen) (room : ℕ) (store : IsStore shelves room) 
         subst (λ (ts : List Timer). AllByRecursion (IsOf k) ts) (sym put.is)
         (all_put (IsOf k) x put.front put.back (sym is) (subst (λ (ts : List Timer). AllByRecursion (IsOf k) ts) put.was (shelf_at 0 k k d shelves store.shelved within (omega arith))))
 
-    pub store_armed : s.spare + 1 ≡ (get_or shelves k d).spare → 0 < room → IsStore (set shelves k s) (room - 1)
+    pub store_armed : (get_or shelves k d).spare ≤ s.spare + 1 → 0 < room → IsStore (set shelves k s) (room - 1)
     store_armed used some = record {
       count = length-set shelves k s ∙ store.count;
       shelved = shelved_set 0 k k shelves s store.shelved within (omega arith) members';

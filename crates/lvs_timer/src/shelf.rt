@@ -8,34 +8,36 @@ ghost use Rattle.lvs_timer.specs.Shelves.{IsInOrder, Has, IsEntered};
 use crate::timer::Timer;
 use lvs_types::{NoMemory, Steps};
 use std::alloc::Global;
+use std::collections::VecDeque;
 use std::marker::Model;
 use std::sync::ledger::Ledger;
 
-/// Timers in order of deadline and then id.
+/// Timers in order of deadline and then id: a queue, since a sweep takes the earliest.
 #[derive(Debug, Drop)]
 pub(crate) struct Shelf {
-    timers: Vec<Timer>,
+    timers: VecDeque<Timer>,
 }
 
 impl Model for Shelf {
-    ghost use Rattle.std.specs.Prelude.{◌-◌, vec_len, vec_capacity};
+    ghost use Rattle.std.specs.Prelude.{◌-◌};
+    ghost use Rattle.std.specs.VecDeque.{deque_len, deque_capacity};
     ghost use Rattle.lvs_timer.specs.Seen.{ShelfSeen};
 
     ghost Value = { ShelfSeen };
 
     ghost use Rattle.lvs_timer.specs.Shelves.{IsInOrder};
 
-    ghost view = { λ s. record { timers = s.timers.items; spare = vec_capacity s.timers - vec_len s.timers } };
+    ghost view = { λ s. record { timers = s.timers.items; spare = deque_capacity s.timers - deque_len s.timers } };
 
     ghost invariant = { λ s. IsInOrder s.timers.items };
 }
 
 /// How many timers stand before a timer.
-fn place_of(timers: &[Timer], timer: &Timer) -> usize
-    requires { IsInOrder timers.now }
-    ensures within { result ≤ length timers.now }
-    ensures front { AllByRecursion (λ t. is_before_by t timer.now ≡ true) (take result timers.now) }
-    ensures back { AllByRecursion (λ t. is_before_by t timer.now ≡ false) (drop result timers.now) }
+fn place_of(timers: &VecDeque<Timer>, timer: &Timer) -> usize
+    requires { IsInOrder timers.now.items }
+    ensures within { result ≤ length timers.now.items }
+    ensures front { AllByRecursion (λ t. is_before_by t timer.now ≡ true) (take result timers.now.items) }
+    ensures back { AllByRecursion (λ t. is_before_by t timer.now ≡ false) (drop result timers.now.items) }
 {
     timers.partition_point(|t| t.is_before(timer))
 }
@@ -45,7 +47,7 @@ impl Shelf {
         ensures { result.timers ≡ [] }
     {
         Shelf {
-            timers: Vec::new(alloc),
+            timers: VecDeque::new(alloc),
         }
     }
 
@@ -64,7 +66,7 @@ impl Shelf {
         requires room { 0 < self.old.spare }
         requires new { find (has_id timer.id) self.old.timers ≡ None }
         ensures timers { IsEntered timer self.old.timers self.new.timers }
-        ensures spare { self.new.spare + 1 ≡ self.old.spare }
+        ensures spare { self.old.spare ≤ self.new.spare + 1 }
     {
         let place = place_of(&self.timers, &timer);
         let put: Result<_, _> = self.timers.insert(place, timer);
@@ -90,10 +92,10 @@ impl Shelf {
         ids: &mut Vec<u64>,
         steps: &mut Steps<L>,
     ) -> Result<(), NoMemory>
-        requires { steps.old < 2 ^ 63 + 2 ^ 62 + 2 ^ 10 }
+        requires { steps.old < length ids.old.items + 2 ^ 62 + 2 ^ 10 }
         ensures ok { OnOk result (ids.new.items ≡ ids.old.items ++ ids_of (filter (is_due now) self.now.timers)) }
         ensures steps { steps.new ≤ steps.old + count_by (is_due now) self.now.timers + 1 }
-        ensures bound { steps.new ≤ steps.old + 2 ^ 59 + 1 }
+        ensures listed { steps.new + length ids.old.items ≤ steps.old + length ids.new.items + 1 }
     {
         for timer in &self.timers {
             steps.tick();

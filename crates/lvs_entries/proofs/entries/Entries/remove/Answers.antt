@@ -1,11 +1,13 @@
-use Rattle.std.proofs.Common.{◌≡◌, ◌∙◌, ap, sym, Some, None, arith}
+use Rattle.std.proofs.Common.{◌≡◌, ◌∙◌, ap, sym, Some, None, subst, arith}
 use Rattle.std.specs.List.{find}
 use Rattle.lvs_model.specs.Lists.{without}
 use Rattle.lvs_model.specs.Lookups.{has_entry_id}
 use Rattle.lvs_entries.specs.Seen.{EntriesSeen, ChainSeen}
 use Rattle.lvs_entries.specs.Store.{place_in}
+use Rattle.lvs_entries.specs.Keyed.{IsTaken}
 use Rattle.lvs_entries.proofs.Looking.{found_id, missed_id}
-use Rattle.lvs_entries.proofs.Kept.{entries_without, store_without, entries_same, store_same, same_place}
+use Rattle.lvs_entries.proofs.Taken.{entries_taken, store_taken}
+use Rattle.lvs_entries.proofs.Kept.{entries_same, store_same, same_place}
 use Rattle.lvs_entries.proofs.entries.Entries.remove.Goals as goal
 
 pub invariant_of-self : goal.invariant_of-self
@@ -29,8 +31,9 @@ returns-in_default-clause-entries c =
 pub invariant_of-self-2 : goal.invariant_of-self-2
 invariant_of-self-2 c =
     let at : place_in c.self.inside.places c.args.id ≡ Some c.from.result = sym c.remove.ensures.value ∙ c.in-Some.is ∙ ap (λ n. Some n) (sym c.from.ensures) in
-    store_without c.self.inside.chains.items (place_in c.self.inside.places) _ c.self.inside.room c.self.invariant c.args.id c.from.result c.remove-2.new.self c.index_mut.result.now (omega arith) at
-    (c.remove-2.ensures.entries ∙ ap (λ (v : ChainSeen). without (has_entry_id c.args.id) v.entries) c.index_mut.ensures.value)
+    store_taken c.self.inside.chains.items (place_in c.self.inside.places) _ c.self.inside.room c.self.invariant c.args.id c.from.result c.remove-2.new.self c.index_mut.result.now (omega arith) at c.remove-2.result
+    (c.remove-2.ensures.removed ∙ ap (λ (v : ChainSeen). find (has_entry_id c.args.id) v.entries) c.index_mut.ensures.value)
+    (subst (λ (v : ChainSeen). IsTaken c.remove-2.result v.entries c.remove-2.new.self.entries) c.index_mut.ensures.value c.remove-2.ensures.taken)
     (place_in c.remove.new.self) _ c.remove.ensures.updates.0 c.remove.ensures.spare
     (let wide = c.remove-2.ensures.spare in let same = ap (λ (v : ChainSeen). v.spare) c.index_mut.ensures.value in omega arith)
 
@@ -44,6 +47,7 @@ returns-clause-removed c =
 pub returns-clause-entries : goal.returns-clause-entries
 returns-clause-entries c =
     let at : place_in c.self.inside.places c.args.id ≡ Some c.from.result = sym c.remove.ensures.value ∙ c.in-Some.is ∙ ap (λ n. Some n) (sym c.from.ensures) in
-    entries_without c.self.inside.chains.items (place_in c.self.inside.places) _ c.self.inside.room c.self.invariant c.args.id c.from.result c.remove-2.new.self c.index_mut.result.now (omega arith) at
-    (c.remove-2.ensures.entries ∙ ap (λ (v : ChainSeen). without (has_entry_id c.args.id) v.entries) c.index_mut.ensures.value)
+    entries_taken c.self.inside.chains.items (place_in c.self.inside.places) _ c.self.inside.room c.self.invariant c.args.id c.from.result c.remove-2.new.self c.index_mut.result.now (omega arith) at c.remove-2.result
+    (c.remove-2.ensures.removed ∙ ap (λ (v : ChainSeen). find (has_entry_id c.args.id) v.entries) c.index_mut.ensures.value)
+    (subst (λ (v : ChainSeen). IsTaken c.remove-2.result v.entries c.remove-2.new.self.entries) c.index_mut.ensures.value c.remove-2.ensures.taken)
     ∙ ap (λ (v : EntriesSeen). without (has_entry_id c.args.id) v.entries) c.self.view_is

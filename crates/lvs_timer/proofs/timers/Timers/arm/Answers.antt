@@ -20,7 +20,7 @@ invariant_of-self c =
     let new_id : find (has_id c.args.id) (timers_in c.self.inside.shelves.items) ≡ None = ap (λ (v : TimersSeen). find (has_id c.args.id) v.timers) c.self.view_is ∙ c.requires.new_id in
     store_armed c.self.inside.shelves.items c.self.inside.room c.self.invariant c.args.id c.shelf_of.result c.index_mut.result.now c.shelf_of.ensures c.args.deadline c.put.new.self new_id
     (subst (λ (v : ShelfSeen). IsEntered x v.timers c.put.new.self.timers) c.index_mut.ensures.value c.put.ensures.timers)
-    (c.put.ensures.spare ∙ ap (λ (v : ShelfSeen). v.spare) c.index_mut.ensures.value)
+    (let wide = c.put.ensures.spare in let same = ap (λ (v : ShelfSeen). v.spare) c.index_mut.ensures.value in omega arith)
     (let some = c.requires.room in let same = ap (λ (v : TimersSeen). v.spare) c.self.view_is in omega arith)
 
 pub returns-clause-timers : goal.returns-clause-timers

@@ -1,9 +1,9 @@
 use Rattle.std.proofs.Common.{◌≡◌, ◌≤◌, ◌+◌, drop}
 use Rattle.lvs_model.specs.Lookups.{entry_at}
-use Rattle.lvs_entries.proofs.chain.Chain.find_key.Given as goal
+use Rattle.lvs_entries.proofs.chain.first_of_key.Given as goal
 
 abbrev pub invariant-loop-e : goal.invariant-loop-e
 invariant-loop-e g l = record {
   counted : l.steps ≤ l.initial.steps + l.e-index;
-  left : entry_at l.key (drop l.e-index l.self.entries) ≡ entry_at l.key l.self.entries;
+  left : entry_at l.key (drop l.e-index l.entries) ≡ entry_at l.key l.entries;
 }

@@ -2,11 +2,11 @@ use Rattle.std.proofs.Common.{◌≡◌, ◌≤◌, ◌+◌, drop}
 use Rattle.std.specs.Option.{option_copied}
 use Rattle.lvs_model.specs.Lookups.{reply_entry}
 use Rattle.lvs_entries.proofs.Least.{lead}
-use Rattle.lvs_entries.proofs.chain.Chain.find_reply.Given as goal
+use Rattle.lvs_entries.proofs.chain.least_of_reply.Given as goal
 
 abbrev pub invariant-loop-e : goal.invariant-loop-e
 invariant-loop-e g l = record {
   counted : l.steps ≤ l.initial.steps + l.e-index;
   left :
-      lead (option_copied l.least) (reply_entry l.sides.proto l.sides.daddr l.sides.dport l.sides.caddr l.sides.cport (drop l.e-index l.self.entries)) ≡ reply_entry l.sides.proto l.sides.daddr l.sides.dport l.sides.caddr l.sides.cport l.self.entries;
+      lead (option_copied l.least) (reply_entry l.sides.proto l.sides.daddr l.sides.dport l.sides.caddr l.sides.cport (drop l.e-index l.entries)) ≡ reply_entry l.sides.proto l.sides.daddr l.sides.dport l.sides.caddr l.sides.cport l.entries;
 }
