@@ -2,6 +2,9 @@ pub mod Updates
 pub mod Least
 pub mod Weighed
 pub mod Runs
+pub mod Leaving
+pub mod Ended
+pub mod TooLong
 pub mod Short
 pub mod Room
 pub mod Ordered

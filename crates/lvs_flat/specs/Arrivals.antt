@@ -3,6 +3,7 @@ use Rattle.std.specs.Prelude.{◌≡◌, ◌+◌, ◌≤◌, [], Ok, Some, lengt
 use Rattle.lvs_model.specs.Packets.{Packet, transport_of}
 use Rattle.lvs_model.specs.Reading.{read}
 use Rattle.lvs_flat.specs.declared.arrival.Arrival.{Arrival}
+use Rattle.lvs_flat.specs.declared.arrival.Lists.{Lists}
 use Rattle.lvs_flat.specs.declared.arrival.Rooms.{Rooms}
 use Rattle.lvs_flat.specs.declared.tables.Tables.{Tables}
 
@@ -15,13 +16,15 @@ pub record IsRead (p : Arrival) : Type 0 where
   pub whole : p.head.total ≡ length p.bytes.now
   pub transport : transport_of p.head ≡ Some p.proto
 
+-- the lists serve for all servers
+pub record ServesAll (l : Lists) (t : Tables) : Type 0 where
+  pub no_candidates : l.candidates.items ≡ []
+  pub candidates : vec_len t.dests ≤ vec_capacity l.candidates
+  pub no_addrs : l.addrs.items ≡ []
+  pub addrs : vec_len t.dests ≤ vec_capacity l.addrs
+
 -- the memory serves for the packet and for all servers
 pub record ServesFor (r : Rooms) (t : Tables) (p : Arrival) : Type 0 where
   pub no_bytes : r.bytes.items ≡ []
   pub bytes : length p.bytes.now + 20 ≤ vec_capacity r.bytes
-  pub no_servers : r.servers.items ≡ []
-  pub servers : vec_len t.dests ≤ vec_capacity r.servers
-  pub no_candidates : r.candidates.items ≡ []
-  pub candidates : vec_len t.dests ≤ vec_capacity r.candidates
-  pub no_addrs : r.addrs.items ≡ []
-  pub addrs : vec_len t.dests ≤ vec_capacity r.addrs
+  pub lists : ServesAll r.lists t

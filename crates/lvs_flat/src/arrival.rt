@@ -1,5 +1,5 @@
 //! A packet on its way through the director, and the memory that is taken for it before the first change.
-use lvs_types::{Addr, Candidate, Dest, Head, Proto};
+use lvs_types::{Addr, Candidate, Head, Proto};
 
 /// An unfragmented packet of TCP or UDP.
 #[derive(Drop)]
@@ -11,11 +11,16 @@ pub(crate) struct Arrival<'a> {
     pub bytes: &'a [u8],
 }
 
-/// Empty lists with room for what the packet may need.
+/// Empty lists with room for all servers, as a scheduler sees them.
+#[derive(Drop)]
+pub(crate) struct Lists {
+    pub candidates: Vec<Candidate>,
+    pub addrs: Vec<Addr>,
+}
+
+/// What a packet may need: an empty list with room for its bytes, and those for the servers.
 #[derive(Drop)]
 pub(crate) struct Rooms {
     pub bytes: Vec<u8>,
-    pub servers: Vec<Dest>,
-    pub candidates: Vec<Candidate>,
-    pub addrs: Vec<Addr>,
+    pub lists: Lists,
 }

@@ -3,16 +3,17 @@ ghost use Rattle.std.specs.Prelude.{◌≡◌, ◌<◌, ◌≤◌, ◌+◌, ◌^
 ghost use Rattle.lvs_flat.specs.Tables.{state_of, IsRoomy};
 ghost use Rattle.std.specs.List.{AllByRecursion};
 ghost use Rattle.lvs_flat.specs.Bounds.{HasRoom, HasFewPackets};
-ghost use Rattle.lvs_flat.specs.TooLong.{says_too_long};
-ghost use Rattle.lvs_flat.specs.Arrivals.{packet_of, IsRead, ServesFor};
+ghost use Rattle.lvs_flat.specs.TooLong.{AreApart};
+ghost use Rattle.lvs_flat.specs.Arrivals.{packet_of, IsRead, ServesFor, ServesAll};
 ghost use Rattle.lvs_model.specs.Reading.{read};
 ghost use Rattle.lvs_model.specs.Packets.{transport_of};
-ghost use Rattle.lvs_model.specs.Incoming.{incoming, incoming_of, incoming_packet, take_back};
+ghost use Rattle.lvs_model.specs.Incoming.{incoming, incoming_of, incoming_packet};
 
-use crate::arrival::{Arrival, Rooms};
+use crate::arrival::{Arrival, Lists, Rooms};
 use crate::incoming::do_arrive;
 use crate::packets::transport;
 use crate::tables::Tables;
+use crate::too_long::is_too_long;
 use lvs_headers::read_packet;
 use lvs_types::{DropCause, NoMemory, Reply};
 use std::alloc::Global;
@@ -30,17 +31,25 @@ fn make_room(tables: &mut Tables) -> Result<(), NoMemory>
     Ok(())
 }
 
+/// Empty lists for the servers.
+fn take_lists(alloc: Global, tables: &Tables) -> Result<Lists, NoMemory>
+    ensures { IfOk result (λ lists. ServesAll lists tables.now) }
+{
+    let servers = tables.dests.len();
+    Ok(Lists {
+        candidates: Vec::with_capacity(alloc, servers)?,
+        addrs: Vec::with_capacity(alloc, servers)?,
+    })
+}
+
 /// Empty lists for the packet and the servers.
 fn take_rooms(alloc: Global, tables: &Tables, p: &Arrival<'_>) -> Result<Rooms, NoMemory>
     requires { IsRead p.now }
     ensures { IfOk result (λ rooms. ServesFor rooms tables.now p.now) }
 {
-    let servers = tables.dests.len();
     Ok(Rooms {
         bytes: Vec::with_capacity(alloc, p.bytes.len() + 20)?,
-        servers: Vec::with_capacity(alloc, servers)?,
-        candidates: Vec::with_capacity(alloc, servers)?,
-        addrs: Vec::with_capacity(alloc, servers)?,
+        lists: take_lists(alloc, tables)?,
     })
 }
 
@@ -56,34 +65,26 @@ fn do_short(tables: &mut Tables, p: &Arrival<'_>, rooms: Rooms) -> Reply
     do_arrive(tables, p, rooms)
 }
 
-fn says_too_long_now(reply: &Reply) -> bool
-    ensures { result ≡ says_too_long reply.now }
-{
-    match reply {
-        Reply::Drop(DropCause::TooLong) => true,
-        _ => false,
-    }
-}
-
-/// A packet that may be too long for a tunnel: where it is, the tables are again as they were.
-fn do_long(tables: &mut Tables, p: &Arrival<'_>, rooms: Rooms, saved: Tables) -> Reply
+/// A packet that may be too long for a tunnel: whether it is, is told before the first change.
+fn do_long(tables: &mut Tables, p: &Arrival<'_>, lists: Lists, rooms: Rooms) -> Reply
     requires read { IsRead p.now }
     requires roomy { IsRoomy tables.old }
+    requires lists { ServesAll lists tables.old }
     requires rooms { ServesFor rooms tables.old p.now }
     requires packets { AllByRecursion HasFewPackets tables.old.entries.items }
-    requires saved { state_of saved ≡ state_of tables.old }
+    requires apart { AreApart (state_of tables.old) }
     ensures { (result, state_of tables.new) ≡ incoming_packet (state_of tables.old) (packet_of p.now) }
 {
-    let reply = do_arrive(tables, p, rooms);
-    if says_too_long_now(&reply) {
-        *tables = saved;
+    if is_too_long(tables, p, lists) {
+        return Reply::Drop(DropCause::TooLong);
     }
-    reply
+    do_arrive(tables, p, rooms)
 }
 
 fn do_packet(alloc: Global, tables: &mut Tables, p: &Arrival<'_>) -> Result<Reply, NoMemory>
     requires read { IsRead p.now }
     requires room { HasRoom (state_of tables.old) }
+    requires apart { AreApart (state_of tables.old) }
     ensures ok { IfOk result (λ r. (r, state_of tables.new) ≡ incoming_packet (state_of tables.old) (packet_of p.now)) }
     ensures err { OnErr result (state_of tables.new ≡ state_of tables.old) }
 {
@@ -92,9 +93,9 @@ fn do_packet(alloc: Global, tables: &mut Tables, p: &Arrival<'_>) -> Result<Repl
         make_room(tables)?;
         Ok(do_short(tables, p, rooms))
     } else {
-        let saved = tables.copy(alloc)?;
+        let lists = take_lists(alloc, tables)?;
         make_room(tables)?;
-        Ok(do_long(tables, p, rooms, saved))
+        Ok(do_long(tables, p, lists, rooms))
     }
 }
 
@@ -105,7 +106,8 @@ pub(crate) fn do_incoming(
     mark: u32,
     bytes: &[u8],
 ) -> Result<Reply, NoMemory>
-    requires { HasRoom (state_of tables.old) }
+    requires room { HasRoom (state_of tables.old) }
+    requires apart { AreApart (state_of tables.old) }
     ensures ok { IfOk result (λ r. (r, state_of tables.new) ≡ incoming (state_of tables.old) mark bytes.now) }
     ensures err { OnErr result (state_of tables.new ≡ state_of tables.old) }
 {

@@ -25,7 +25,7 @@ fn find_in(
 }
 
 /// The server for an entry: in the service of its mark, protocol and virtual side.
-fn find_for_entry(services: &[Service], dests: &[Dest], e: &Entry) -> Option<Dest>
+pub(crate) fn find_for_entry(services: &[Service], dests: &[Dest], e: &Entry) -> Option<Dest>
     ensures { result ≡ server_for_entry services.now dests.now e.now }
 {
     let service = find_packet_service(services, e.key.proto, e.key.vaddr, e.key.vport, e.mark);
@@ -77,7 +77,8 @@ fn find_for_template(services: &[Service], dests: &[Dest], t: &Template) -> Opti
     find_in(service, t.daddr, t.dport, t.key.vport, dests)
 }
 
-fn bound(e: &Entry, d: &Dest) -> Entry
+/// The entry names the server and takes its method.
+pub(crate) fn bound(e: &Entry, d: &Dest) -> Entry
     ensures { result ≡ bound_to d.now e.now }
 {
     Entry {

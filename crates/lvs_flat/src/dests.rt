@@ -1,14 +1,16 @@
 //! Look-ups and edits of the real servers.
-ghost use Rattle.std.specs.Prelude.{◌≡◌, Some, ◌&&◌, ◌+◌, ◌≤◌, [], length, vec_len, vec_capacity, map};
+ghost use Rattle.std.specs.Prelude.{◌≡◌, Some, ◌&&◌, ◌+◌, ◌≤◌, [], length, vec_capacity, map, slice_get};
 ghost use Rattle.std.specs.List.{find, filter, list_any, position};
 ghost use Rattle.lvs_types.specs.declared.dest.Dest.{Dest};
 ghost use Rattle.lvs_model.specs.Lookups.{dest_at, has_dest_id, is_server_of, is_server_at, servers_of};
 ghost use Rattle.lvs_model.specs.Counts.{is_eligible, candidate_of, candidates, refs, total};
 ghost use Rattle.lvs_model.specs.Binding.{serves_at, count_bound, count_ended};
+ghost use Rattle.lvs_flat.specs.Views.{dest_in, dests_in, entries_in};
 ghost use Rattle.lvs_model.specs.Overload.{is_reached, is_relieved, overload_bound, overload_ended};
 
-use crate::entries::{count_active, count_inactive, count_total};
+use crate::entries::count_total;
 use crate::templates::count_naming;
+use crate::view::{View, count_active_in, count_inactive_in, seen};
 use lvs_types::{Addr, Candidate, Dest, DestId, DestSpec, Entry, ServiceKey, Template};
 
 /// The server of an id, live or in the trash.
@@ -80,52 +82,74 @@ pub(crate) fn find_serving(
     None
 }
 
-/// Copies the servers of a service into a list that has room for them.
-pub(crate) fn list_servers(servers: &mut Vec<Dest>, dests: &[Dest], key: ServiceKey)
-    requires empty { servers.old.items ≡ [] }
-    requires room { length dests.now ≤ vec_capacity servers.old }
-    ensures items { servers.new.items ≡ servers_of key dests.now }
-    ensures bound { vec_len servers.new ≤ length dests.now }
-{
-    for d in dests {
-        if is_live_of(d, key) {
-            servers.push_reserved(*d);
-        }
-    }
-}
-
-fn candidate(entries: &[Entry], d: &Dest) -> Candidate
-    ensures { result ≡ candidate_of entries.now d.now }
+fn candidate(entries: &[Entry], d: &Dest, ended: Option<u64>) -> Candidate
+    ensures { result ≡ candidate_of (entries_in ended entries.now) d.now }
 {
     Candidate {
         id: d.id,
         weight: d.spec.weight,
-        active: count_active(entries, d.id),
-        inactive: count_inactive(entries, d.id),
+        active: count_active_in(entries, ended, d.id),
+        inactive: count_inactive_in(entries, ended, d.id),
         eligible: d.live && 0 < d.spec.weight && !d.overloaded,
     }
 }
 
-/// The servers as a scheduler sees them, in a list that has room for them.
-pub(crate) fn list_candidates(found: &mut Vec<Candidate>, servers: &[Dest], entries: &[Entry])
-    requires empty { found.old.items ≡ [] }
-    requires room { length servers.now ≤ vec_capacity found.old }
-    ensures { found.new.items ≡ map (candidate_of entries.now) servers.now }
+/// The server as a scheduler sees it in the view.
+fn candidate_in(entries: &[Entry], d: &Dest, view: View) -> Candidate
+    ensures { result ≡ candidate_of (entries_in view.ended entries.now) (dest_in view.overload d.now) }
 {
-    for d in servers {
-        found.push_reserved(candidate(entries, d));
+    candidate(entries, &seen(d, view.overload), view.ended)
+}
+
+/// The servers of a service as a scheduler sees them, in a list that has room for them.
+pub(crate) fn list_candidates(
+    found: &mut Vec<Candidate>,
+    dests: &[Dest],
+    entries: &[Entry],
+    key: ServiceKey,
+    view: View,
+)
+    requires empty { found.old.items ≡ [] }
+    requires room { length dests.now ≤ vec_capacity found.old }
+    ensures { found.new.items ≡ candidates key (dests_in view.overload dests.now) (entries_in view.ended entries.now) }
+{
+    for d in dests {
+        if is_live_of(&seen(d, view.overload), key) {
+            found.push_reserved(candidate_in(entries, d, view));
+        }
     }
 }
 
 /// The servers' addresses, in a list that has room for them.
-pub(crate) fn list_addrs(addrs: &mut Vec<Addr>, servers: &[Dest])
+pub(crate) fn list_addrs(addrs: &mut Vec<Addr>, dests: &[Dest], key: ServiceKey, view: View)
     requires empty { addrs.old.items ≡ [] }
-    requires room { length servers.now ≤ vec_capacity addrs.old }
-    ensures { addrs.new.items ≡ map (λ (d : Dest). d.spec.addr) servers.now }
+    requires room { length dests.now ≤ vec_capacity addrs.old }
+    ensures { addrs.new.items ≡ map (λ (d : Dest). d.spec.addr) (servers_of key (dests_in view.overload dests.now)) }
 {
-    for d in servers {
-        addrs.push_reserved(d.spec.addr);
+    for d in dests {
+        let d = seen(d, view.overload);
+        if is_live_of(&d, key) {
+            addrs.push_reserved(d.spec.addr);
+        }
     }
+}
+
+/// The server at a place among those of a service.
+#[tactic(auto, using(crate::proofs::Leaving::later_place))]
+pub(crate) fn find_nth(dests: &[Dest], key: ServiceKey, place: usize, view: View) -> Option<Dest>
+    ensures { result ≡ slice_get (servers_of key (dests_in view.overload dests.now)) place }
+{
+    let mut before = place;
+    for d in dests {
+        let d = seen(d, view.overload);
+        if is_live_of(&d, key) {
+            if before == 0 {
+                return Some(d);
+            }
+            before -= 1;
+        }
+    }
+    None
 }
 
 /// How much names the server.

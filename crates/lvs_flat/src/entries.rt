@@ -1,5 +1,5 @@
 //! Look-ups, counts and edits of the entries.
-ghost use Rattle.std.specs.Prelude.{◌≡◌, ◌≤◌, ◌+◌, length, count_by, vec_len, vec_capacity, IfSome};
+ghost use Rattle.std.specs.Prelude.{◌≡◌, ◌≤◌, ◌+◌, not, ◌&&◌, length, count_by, vec_len, vec_capacity, IfSome};
 ghost use Rattle.std.specs.List.{find, filter, list_any, position, AllByRecursion};
 ghost use Rattle.lvs_types.specs.declared.entry.Entry.{Entry};
 ghost use Rattle.lvs_model.specs.Lists.{without, least_by};
@@ -7,7 +7,7 @@ ghost use Rattle.lvs_model.specs.Lookups.{entry_at, has_entry_id, is_reply_of, r
 ghost use Rattle.lvs_model.specs.Binding.{put_entry};
 ghost use Rattle.lvs_flat.specs.Least.{older};
 ghost use Rattle.lvs_flat.specs.Bounds.{HasFewPackets};
-ghost use Rattle.lvs_model.specs.Counts.{active, inactive, total, controls, is_made_by};
+ghost use Rattle.lvs_model.specs.Counts.{active, inactive, counts_active, counts_inactive, total, controls, is_made_by};
 
 use lvs_states::is_active;
 use lvs_types::{Addr, DestId, Entry, Key, Method, Proto, TemplateId};
@@ -89,6 +89,28 @@ pub(crate) fn count_inactive(entries: &[Entry], id: DestId) -> u64
     entries
         .iter()
         .filter(|e| e.server == Some(id) && !is_active(e.state))
+        .count() as u64
+}
+
+/// How many entries but one name the server in state Established.
+pub(crate) fn count_active_without(entries: &[Entry], entry: u64, id: DestId) -> u64
+    ensures value { result ≡ count_by (λ (e : Entry). not (has_entry_id entry e) && counts_active id e) entries.now }
+    ensures bound { result ≤ length entries.now }
+{
+    entries
+        .iter()
+        .filter(|e| e.id != entry && (e.server == Some(id) && is_active(e.state)))
+        .count() as u64
+}
+
+/// How many others but that one name it.
+pub(crate) fn count_inactive_without(entries: &[Entry], entry: u64, id: DestId) -> u64
+    ensures value { result ≡ count_by (λ (e : Entry). not (has_entry_id entry e) && counts_inactive id e) entries.now }
+    ensures bound { result ≤ length entries.now }
+{
+    entries
+        .iter()
+        .filter(|e| e.id != entry && (e.server == Some(id) && !is_active(e.state)))
         .count() as u64
 }
 

@@ -4,6 +4,7 @@ ghost use Rattle.lvs_model.specs.Messages.{HasOldFlags};
 ghost use Rattle.std.specs.List.{AllByRecursion};
 ghost use Rattle.lvs_flat.specs.Tables.{state_of};
 ghost use Rattle.lvs_flat.specs.Bounds.{HasRoom};
+ghost use Rattle.lvs_flat.specs.TooLong.{AreApart};
 ghost use Rattle.lvs_model.specs.Snapshots.{snapshot_of};
 ghost use Rattle.lvs_model.specs.State.{initial};
 ghost use Rattle.lvs_model.specs.Step.{step, IsInRange};
@@ -48,6 +49,7 @@ impl Model for Flat {
 fn do_step(alloc: Global, tables: &mut Tables, item: &Item) -> Result<Reply, NoMemory>
     requires room { HasRoom (state_of tables.old) }
     requires buckets { 0 < tables.old.buckets }
+    requires apart { AreApart (state_of tables.old) }
     requires pending { AllByRecursion HasOldFlags tables.old.pending.items }
     ensures ok { IfOk result (λ r. (r, state_of tables.new) ≡ step (state_of tables.old) item.now) }
     ensures err { OnErr result (state_of tables.new ≡ state_of tables.old) }

@@ -98,7 +98,8 @@ pub(crate) fn push_records(tables: &mut Tables, before: Option<TcpState>, e: &En
     }
 }
 
-fn exceeds(head: &Head, method: Method) -> bool
+/// Whether the packet would be too long for a tunnel to a server of the method.
+pub(crate) fn exceeds(head: &Head, method: Method) -> bool
     ensures { result ≡ is_too_long head.now method }
 {
     match method {

@@ -47,7 +47,7 @@ fn is_without_weight(server: Option<Dest>) -> bool
     }
 }
 
-fn is_in_trash(server: Option<Dest>) -> bool
+pub(crate) fn is_in_trash(server: Option<Dest>) -> bool
     ensures { result ≡ is_trashed server }
 {
     match server {
@@ -65,7 +65,7 @@ fn find_named(dests: &[Dest], server: Option<DestId>) -> Option<Dest>
     }
 }
 
-fn reuses(settings: &Settings, p: &Arrival<'_>, e: &Entry, server: Option<Dest>) -> bool
+pub(crate) fn reuses(settings: &Settings, p: &Arrival<'_>, e: &Entry, server: Option<Dest>) -> bool
     ensures { result ≡ is_reused settings.now (packet_of p.now) e.now server }
 {
     is_syn(p.proto, &p.head)

@@ -25,6 +25,8 @@ mod serving;
 mod snapshot;
 mod tables;
 mod templates;
+mod too_long;
+mod view;
 
 pub use flat::Flat;
 

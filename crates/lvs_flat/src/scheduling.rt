@@ -1,16 +1,18 @@
 //! A new connection: its service, its template, the pick of a server, and its entry.
 ghost use Rattle.std.specs.Prelude.{◌≡◌, ◌<◌, ◌≤◌, ◌+◌, ◌^◌, [], Some, None, map, length, slice_get, vec_len, vec_capacity};
 ghost use Rattle.lvs_flat.specs.Tables.{state_of, IsRoomy, CanEnter};
-ghost use Rattle.lvs_flat.specs.Arrivals.{packet_of, IsRead, ServesFor};
+ghost use Rattle.lvs_flat.specs.Arrivals.{packet_of, IsRead, ServesFor, ServesAll};
+ghost use Rattle.lvs_flat.specs.Views.{seen_in};
+ghost use Rattle.lvs_flat.specs.TooLong.{choice_in};
 ghost use Rattle.lvs_model.specs.Lookups.{servers_of};
 ghost use Rattle.lvs_types.specs.declared.dest.Dest.{Dest};
 ghost use Rattle.lvs_model.specs.LeastLoad.{AreWeighed};
-ghost use Rattle.lvs_model.specs.Counts.{candidate_of, candidates};
+ghost use Rattle.lvs_model.specs.Counts.{candidates};
 ghost use Rattle.lvs_model.specs.Pick.{pick};
 ghost use Rattle.lvs_model.specs.Scheduling.{port_at, mark_of, state_before, new_entry, enter, is_one_packet, connect_to, new_template, replace_template, take_pick, with_cursor, pick_at, picked, schedule};
 
-use crate::arrival::{Arrival, Rooms};
-use crate::dests::{list_addrs, list_candidates, list_servers, note_bound};
+use crate::arrival::{Arrival, Lists, Rooms};
+use crate::dests::{find_nth, list_addrs, list_candidates, note_bound};
 use crate::forwarding::{direction_of, forward, push_records, put_in_state, state_then};
 use crate::packets::key_of_packet;
 use crate::persistence::key_for;
@@ -18,6 +20,7 @@ use crate::pick::pick_server;
 use crate::services::set_cursor;
 use crate::tables::Tables;
 use crate::templates::remove;
+use crate::view::{AS_THEY_ARE, View};
 use lvs_types::{
     Addr, Candidate, Cursor, Dest, DropCause, Entry, Head, Proto, Reply, Service, ServiceKey,
     TcpState, Template, TemplateId, TemplateKey,
@@ -232,21 +235,21 @@ fn do_pick_at(
     }
 }
 
-fn server_at(servers: &[Dest], place: usize) -> Option<Dest>
-    ensures { result ≡ slice_get servers.now place }
+/// The server at a place among those of the service.
+#[tactic(auto, using(crate::proofs::Leaving::as_they_are))]
+fn server_at(tables: &Tables, key: ServiceKey, place: usize) -> Option<Dest>
+    ensures { result ≡ slice_get (servers_of key tables.now.dests.items) place }
 {
-    servers.get(place).copied()
+    find_nth(&tables.dests, key, place, AS_THEY_ARE)
 }
 
 fn do_take_choice(
     tables: &mut Tables,
     p: &Arrival<'_>,
     service: &Service,
-    servers: &[Dest],
     choice: Option<(usize, Cursor)>,
     room: Vec<u8>,
 ) -> Reply
-    requires servers { servers.now ≡ servers_of service.now.key tables.old.dests.items }
     requires read { IsRead p.now }
     requires roomy { IsRoomy tables.old }
     requires empty { room.items ≡ [] }
@@ -256,7 +259,8 @@ fn do_take_choice(
     match choice {
         None => Reply::Drop(DropCause::NoDest),
         Some((place, cursor)) => {
-            do_pick_at(tables, p, service, cursor, server_at(servers, place), room)
+            let server = server_at(tables, service.key, place);
+            do_pick_at(tables, p, service, cursor, server, room)
         }
     }
 }
@@ -281,52 +285,42 @@ fn pick_from(
     )
 }
 
-fn find_candidates(tables: &Tables, servers: &[Dest], found: &mut Vec<Candidate>)
+fn find_candidates(tables: &Tables, key: ServiceKey, view: View, found: &mut Vec<Candidate>)
     requires empty { found.old.items ≡ [] }
-    requires room { length servers.now ≤ vec_capacity found.old }
-    ensures items { found.new.items ≡ map (candidate_of tables.now.entries.items) servers.now }
-    ensures len { vec_len found.new ≡ length servers.now }
+    requires room { vec_len tables.now.dests ≤ vec_capacity found.old }
+    ensures items { found.new.items ≡ candidates key (seen_in view (state_of tables.now)).dests (seen_in view (state_of tables.now)).entries }
+    ensures len { vec_len found.new ≡ length (servers_of key (seen_in view (state_of tables.now)).dests) }
 {
-    list_candidates(found, servers, &tables.entries);
+    list_candidates(found, &tables.dests, &tables.entries, key, view);
 }
 
-fn find_addrs(servers: &[Dest], addrs: &mut Vec<Addr>)
+fn find_addrs(tables: &Tables, key: ServiceKey, view: View, addrs: &mut Vec<Addr>)
     requires empty { addrs.old.items ≡ [] }
-    requires room { length servers.now ≤ vec_capacity addrs.old }
-    ensures items { addrs.new.items ≡ map (λ (d : Dest). d.spec.addr) servers.now }
-    ensures len { vec_len addrs.new ≡ length servers.now }
+    requires room { vec_len tables.now.dests ≤ vec_capacity addrs.old }
+    ensures items { addrs.new.items ≡ map (λ (d : Dest). d.spec.addr) (servers_of key (seen_in view (state_of tables.now)).dests) }
+    ensures len { vec_len addrs.new ≡ length (servers_of key (seen_in view (state_of tables.now)).dests) }
 {
-    list_addrs(addrs, servers);
+    list_addrs(addrs, &tables.dests, key, view);
 }
 
-/// The server that the scheduler picks among the service's, and the cursor that is left.
-fn choose(
+/// The place of the server that the scheduler picks among the service's, and the cursor that is left.
+pub(crate) fn choose(
     tables: &Tables,
     p: &Arrival<'_>,
     service: &Service,
-    servers: &[Dest],
-    mut found: Vec<Candidate>,
-    mut addrs: Vec<Addr>,
+    view: View,
+    lists: Lists,
 ) -> Option<(usize, Cursor)>
-    requires servers { servers.now ≡ servers_of service.now.key tables.now.dests.items }
-    requires empty { found.items ≡ [] }
-    requires room { length servers.now ≤ vec_capacity found }
-    requires no_addrs { addrs.items ≡ [] }
-    requires addrs_room { length servers.now ≤ vec_capacity addrs }
-    ensures { result ≡ pick service.now.scheduler (candidates service.now.key tables.now.dests.items tables.now.entries.items) (map (λ (d : Dest). d.spec.addr) (servers_of service.now.key tables.now.dests.items)) service.now.cursor p.now.head.src p.now.head.dst }
+    requires lists { ServesAll lists tables.now }
+    ensures { result ≡ choice_in (seen_in view (state_of tables.now)) (packet_of p.now) service.now }
 {
-    find_candidates(tables, servers, &mut found);
-    find_addrs(servers, &mut addrs);
-    pick_from(service, &found, &addrs, p)
-}
-
-fn find_servers(tables: &Tables, key: ServiceKey, servers: &mut Vec<Dest>)
-    requires empty { servers.old.items ≡ [] }
-    requires room { vec_len tables.now.dests ≤ vec_capacity servers.old }
-    ensures items { servers.new.items ≡ servers_of key tables.now.dests.items }
-    ensures bound { vec_len servers.new ≤ vec_len tables.now.dests }
-{
-    list_servers(servers, &tables.dests, key);
+    let Lists {
+        mut candidates,
+        mut addrs,
+    } = lists;
+    find_candidates(tables, service.key, view, &mut candidates);
+    find_addrs(tables, service.key, view, &mut addrs);
+    pick_from(service, &candidates, &addrs, p)
 }
 
 /// The scheduler picks, on the counts as they are now.
@@ -341,13 +335,7 @@ pub(crate) fn do_schedule(
     requires rooms { ServesFor rooms tables.old p.now }
     ensures { (result, state_of tables.new) ≡ schedule (state_of tables.old) (packet_of p.now) service.now }
 {
-    let Rooms {
-        bytes,
-        mut servers,
-        candidates,
-        addrs,
-    } = rooms;
-    find_servers(tables, service.key, &mut servers);
-    let choice = choose(tables, p, service, &servers, candidates, addrs);
-    do_take_choice(tables, p, service, &servers, choice, bytes)
+    let Rooms { bytes, lists } = rooms;
+    let choice = choose(tables, p, service, AS_THEY_ARE, lists);
+    do_take_choice(tables, p, service, choice, bytes)
 }

@@ -60,7 +60,8 @@ fn keep_tried(tables: &mut Tables, t: &Template)
     put(&mut tables.templates, *t);
 }
 
-fn usable_now(tables: &Tables, t: &Template) -> Option<Dest>
+/// The server that the template gives, if it is usable.
+pub(crate) fn usable_now(tables: &Tables, t: &Template) -> Option<Dest>
     ensures { result ≡ usable_server tables.now.settings tables.now.dests.items t.now.server }
 {
     find_usable(&tables.settings, &tables.dests, t.server)

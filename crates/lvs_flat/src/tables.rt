@@ -1,9 +1,9 @@
 //! What the director keeps.
-ghost use Rattle.std.specs.Prelude.{◌≡◌, IfOk};
+ghost use Rattle.std.specs.Prelude.{◌≡◌};
 ghost use Rattle.lvs_flat.specs.Tables.{state_of};
 ghost use Rattle.lvs_model.specs.State.{initial};
 
-use lvs_types::{Addr, Daemons, Dest, Entry, NoMemory, Service, Settings, SyncRecord, Template};
+use lvs_types::{Addr, Daemons, Dest, Entry, Service, Settings, SyncRecord, Template};
 use std::alloc::Global;
 
 /// The lists of the flat state, and its numbers.
@@ -47,26 +47,5 @@ impl Tables {
             next_dest: 1,
             next_template: 1,
         }
-    }
-
-    /// The same tables once more.
-    pub(crate) fn copy(&self, alloc: Global) -> Result<Tables, NoMemory>
-        ensures { IfOk result (λ t. state_of t ≡ state_of self.now) }
-    {
-        Ok(Tables {
-            moment: self.moment,
-            local: self.local,
-            buckets: self.buckets,
-            settings: self.settings,
-            daemons: self.daemons,
-            services: self.services.to_vec(alloc)?,
-            dests: self.dests.to_vec(alloc)?,
-            templates: self.templates.to_vec(alloc)?,
-            entries: self.entries.to_vec(alloc)?,
-            pending: self.pending.to_vec(alloc)?,
-            next_entry: self.next_entry,
-            next_dest: self.next_dest,
-            next_template: self.next_template,
-        })
     }
 }

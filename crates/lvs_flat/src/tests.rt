@@ -62,6 +62,8 @@ enum Given {
     Ack(u16),
     Fin(u16),
     Reset(u16),
+    /// A SYN of 65,516 bytes.
+    LongSyn(u16),
     /// The same SYN with a mark.
     Marked(u32, u16),
     /// A SYN of port 40000 to 10.0.0.2:80.
@@ -129,15 +131,33 @@ fn service(key: ServiceKey, scheduler: Scheduler, persist: Option<u32>) -> Item
     }))
 }
 
-/// A TCP packet to port 80 of 10.0.0.n, 1 or 2. Its TCP checksum isn't looked at.
-fn tcp(alloc: Global, port: u16, n: u8, flags: u8) -> Result<Bytes, NoMemory> {
+/// A TCP packet to port 80 of 10.0.0.n, 1 or 2: of 40 bytes, or of 65,516 to 10.0.0.1. Its TCP
+/// checksum isn't looked at.
+fn tcp(alloc: Global, port: u16, n: u8, flags: u8, total: u16) -> Result<Bytes, NoMemory> {
     let port = port.to_be_bytes();
-    let sum = if n == 1 { 0xb5 } else { 0xb4 };
-    let bytes = [
-        0x45, 0, 0, 40, 0, 1, 0x40, 0, 0x40, 6, 0x84, sum, 0xac, 0x10, 0, 9, 10, 0, 0, n, port[0],
-        port[1], 0, 80, 0, 0, 0, 0, 0, 0, 0, 0, 0x50, flags, 0x20, 0, 0, 0, 0, 0,
+    let length = total.to_be_bytes();
+    let sum = match (total, n) {
+        (65516, _) => 0xf0,
+        (_, 1) => 0xb5,
+        _ => 0xb4,
+    };
+    let head = [
+        0x45, 0, length[0], length[1], 0, 1, 0x40, 0, 0x40, 6, 0x84, sum, 0xac, 0x10, 0, 9, 10, 0,
+        0, n, port[0], port[1], 0, 80, 0, 0, 0, 0, 0, 0, 0, 0, 0x50, flags, 0x20, 0, 0, 0, 0, 0,
     ];
-    Ok(Bytes::copied(alloc, &bytes)?)
+    let mut bytes = Bytes::copied(alloc, &head)?.into_vec();
+    bytes.resize(usize::from(total), 0)?;
+    Ok(Bytes::from_vec(bytes))
+}
+
+/// A SYN of 65,516 bytes to port 80 of 10.0.0.1.
+fn long_syn(alloc: Global, port: u16) -> Result<Item, NoMemory>
+    ensures { IfOk result IsInRange }
+{
+    Ok(Item::Incoming {
+        mark: 0,
+        bytes: tcp(alloc, port, 1, 2, 65516)?,
+    })
 }
 
 fn incoming(alloc: Global, port: u16, n: u8, flags: u8, mark: u32) -> Result<Item, NoMemory>
@@ -145,7 +165,7 @@ fn incoming(alloc: Global, port: u16, n: u8, flags: u8, mark: u32) -> Result<Ite
 {
     Ok(Item::Incoming {
         mark,
-        bytes: tcp(alloc, port, n, flags)?,
+        bytes: tcp(alloc, port, n, flags, 40)?,
     })
 }
 
@@ -234,6 +254,7 @@ fn item(alloc: Global, given: Given) -> Result<Item, NoMemory>
         Given::Syn(port) => incoming(alloc, port, 1, 2, 0)?,
         Given::Ack(port) => incoming(alloc, port, 1, 16, 0)?,
         Given::Fin(port) => incoming(alloc, port, 1, 1, 0)?,
+        Given::LongSyn(port) => long_syn(alloc, port)?,
         Given::Reset(port) => incoming(alloc, port, 1, 4, 0)?,
         Given::Marked(mark, port) => incoming(alloc, port, 1, 2, mark)?,
         Given::SynToOther => incoming(alloc, 40000, 2, 2, 0)?,
@@ -574,6 +595,19 @@ const CORNERS: &[Course] = &[
             (Given::Ack(40000), Says::To(1)),
             (Given::Remove(1), Says::Done),
             (Given::Ack(40000), Says::Dropped(DropCause::Gone)),
+        ],
+    },
+    Course {
+        name: "a SYN too long for the tunnel takes no connection's place",
+        steps: &[
+            (Given::Serve(WEB, Scheduler::Rr), Says::Done),
+            (Given::AddTo(WEB, 1, Method::Tunnel, 80), Says::Done),
+            (Given::AddTo(WEB, 2, Method::Tunnel, 80), Says::Done),
+            (Given::Syn(40000), Says::To(1)),
+            (Given::Fin(40000), Says::To(1)),
+            (Given::LongSyn(40000), Says::Dropped(DropCause::TooLong)),
+            (Given::Ack(40000), Says::To(1)),
+            (Given::Syn(40000), Says::To(2)),
         ],
     },
     Course {

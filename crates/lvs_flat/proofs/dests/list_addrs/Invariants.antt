@@ -1,10 +1,12 @@
 use Rattle.std.proofs.Common.{◌≡◌, ◌≤◌, ◌++◌, drop, length, map, vec_len, vec_capacity}
 use Rattle.lvs_types.specs.declared.dest.Dest.{Dest}
+use Rattle.lvs_model.specs.Lookups.{servers_of}
+use Rattle.lvs_flat.specs.Views.{dests_in}
 use Rattle.lvs_flat.proofs.dests.list_addrs.Given as goal
 
 abbrev pub invariant-loop-d : goal.invariant-loop-d
 invariant-loop-d l = record {
-  so_far : l.addrs.items ++ map (λ (d : Dest). d.spec.addr) (drop l.d-index l.servers) ≡ map (λ (d : Dest). d.spec.addr) l.servers;
+  so_far : l.addrs.items ++ map (λ (d : Dest). d.spec.addr) (servers_of l.key (dests_in l.view.overload (drop l.d-index l.dests))) ≡ map (λ (d : Dest). d.spec.addr) (servers_of l.key (dests_in l.view.overload l.dests));
   fewer : vec_len l.addrs ≤ l.d-index;
-  room : length l.servers ≤ vec_capacity l.addrs;
+  room : length l.dests ≤ vec_capacity l.addrs;
 }
