@@ -103,7 +103,7 @@ pub(crate) fn count_active_without(entries: &[Entry], entry: u64, id: DestId) ->
         .count() as u64
 }
 
-/// How many others but that one name it.
+/// How many entries but one name it in another state.
 pub(crate) fn count_inactive_without(entries: &[Entry], entry: u64, id: DestId) -> u64
     ensures value { result ≡ count_by (λ (e : Entry). not (has_entry_id entry e) && counts_inactive id e) entries.now }
     ensures bound { result ≤ length entries.now }

@@ -58,7 +58,7 @@ pub(crate) fn count_active_in(entries: &[Entry], ended: Option<u64>, id: DestId)
     }
 }
 
-/// How many others would.
+/// How many would name it in another state.
 pub(crate) fn count_inactive_in(entries: &[Entry], ended: Option<u64>, id: DestId) -> u64
     ensures value { result ≡ inactive id (entries_in ended entries.now) }
     ensures bound { result ≤ length entries.now }
