@@ -8,3 +8,4 @@ pub mod ServiceLines
 pub mod ServerLines
 pub mod SavedTexts
 pub mod Applied
+pub mod Grouping

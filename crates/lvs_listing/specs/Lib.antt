@@ -1,3 +1,4 @@
 pub mod Texts
 pub mod Savable
 pub mod ExampleState
+pub mod Grouped

@@ -3,6 +3,7 @@
 
 mod connections;
 mod cutting;
+mod groups;
 pub mod laws;
 mod names;
 mod pieces;

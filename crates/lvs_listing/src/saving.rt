@@ -2,6 +2,7 @@
 ghost use Rattle.std.specs.Prelude.{◌≡◌, ◌++◌, drop, OnOk, IfOk};
 ghost use Rattle.lvs_model.specs.Listings.{key_words, service_words, server_words, rows_of, saved_servers, saved_services, save_text};
 
+use crate::groups::Groups;
 use crate::names::{is_server_of, method_word, scheduler_name};
 use crate::pieces::{put, put_endpoint, put_number, put_options, put_threshold};
 use lvs_types::{Bytes, DestRow, DestSpec, NoMemory, Proto, Service, ServiceKey, Snapshot};
@@ -75,12 +76,18 @@ fn put_servers(out: &mut Vec<u8>, key: ServiceKey, rows: &[DestRow]) -> Result<(
 }
 
 /// Appends the services, each with its servers behind it.
-fn put_services(out: &mut Vec<u8>, services: &[Service], rows: &[DestRow]) -> Result<(), NoMemory>
+fn put_services(
+    alloc: Global,
+    out: &mut Vec<u8>,
+    services: &[Service],
+    rows: &[DestRow],
+) -> Result<(), NoMemory>
     ensures { OnOk result (out.new.items ≡ out.old.items ++ saved_services rows.now services.now) }
 {
+    let groups = Groups::of(alloc, services.len(), rows)?;
     for service in services {
         put_service(out, service)?;
-        put_servers(out, service.key, rows)?;
+        put_servers(out, service.key, groups.around(service.key))?;
     }
     Ok(())
 }
@@ -93,6 +100,7 @@ pub fn save(alloc: Global, tables: &Snapshot) -> Result<Bytes, NoMemory>
 {
     let mut out = Vec::new(alloc);
     put_services(
+        alloc,
         &mut out,
         tables.services.as_slice(),
         tables.dests.as_slice(),

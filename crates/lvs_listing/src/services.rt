@@ -2,6 +2,7 @@
 ghost use Rattle.std.specs.Prelude.{◌≡◌, ◌++◌, drop, OnOk, IfOk};
 ghost use Rattle.lvs_model.specs.Listings.{key_text, service_line, server_line, server_lines, rows_of, service_lines, list_text};
 
+use crate::groups::Groups;
 use crate::names::{is_server_of, method_title, scheduler_name};
 use crate::pieces::{put, put_endpoint, put_number, put_options};
 use lvs_types::{Bytes, DestRow, NoMemory, Proto, Service, ServiceKey, Snapshot};
@@ -74,12 +75,18 @@ fn put_servers(out: &mut Vec<u8>, key: ServiceKey, rows: &[DestRow]) -> Result<(
 }
 
 /// Appends the services, each with its servers under it.
-fn put_services(out: &mut Vec<u8>, services: &[Service], rows: &[DestRow]) -> Result<(), NoMemory>
+fn put_services(
+    alloc: Global,
+    out: &mut Vec<u8>,
+    services: &[Service],
+    rows: &[DestRow],
+) -> Result<(), NoMemory>
     ensures { OnOk result (out.new.items ≡ out.old.items ++ service_lines rows.now services.now) }
 {
+    let groups = Groups::of(alloc, services.len(), rows)?;
     for service in services {
         put_service(out, service)?;
-        put_servers(out, service.key, rows)?;
+        put_servers(out, service.key, groups.around(service.key))?;
     }
     Ok(())
 }
@@ -93,6 +100,7 @@ pub fn list(alloc: Global, tables: &Snapshot) -> Result<Bytes, NoMemory>
 {
     let mut out = Vec::new(alloc);
     put_services(
+        alloc,
         &mut out,
         tables.services.as_slice(),
         tables.dests.as_slice(),
