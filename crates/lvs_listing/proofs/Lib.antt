@@ -1,5 +1,3 @@
-pub mod Splits
-pub mod Cuts
 pub mod Commands
 pub mod Numerals
 pub mod Wording

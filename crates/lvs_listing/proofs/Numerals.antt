@@ -14,7 +14,7 @@ use Rattle.lvs_types.specs.declared.addr.Addr.{Addr}
 use Rattle.lvs_model.specs.Decimals.{value_after, is_number, number_of, number_between, cut_at, addr_of, port_of, endpoint_of}
 use Rattle.lvs_model.specs.Report.{addr_text}
 use Rattle.lvs_model.specs.Listings.{endpoint_text}
-use Rattle.lvs_listing.proofs.Splits.{cut_pair}
+use Rattle.lvs_lines.proofs.Splits.{cut_pair}
 
 abbrev some_addr : ℕ → Option Addr
 some_addr number = Some (record { number = number })

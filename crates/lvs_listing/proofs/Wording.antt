@@ -19,7 +19,7 @@ use Rattle.lvs_model.specs.AdminWords.{letter_word, split_word, split_words, spl
 use Rattle.lvs_model.specs.AdminLines.{line_of_split, line_of_words}
 use Rattle.lvs_model.specs.Listings.{endpoint_text}
 use Rattle.lvs_model.specs.Restoring.{command_of_line, saved_command, some_command, saved_line}
-use Rattle.lvs_listing.proofs.Cuts.{more_pieces, some_pieces}
+use Rattle.lvs_lines.proofs.Cuts.{more_pieces, some_pieces}
 use Rattle.lvs_listing.proofs.Numerals.{both_true, first_true, second_true, all_more, all_append, decimal_all, addr_spelled, endpoint_spelled, addr_all}
 
 -- SPLITTING AT A BYTE

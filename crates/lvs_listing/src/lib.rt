@@ -2,7 +2,6 @@
 #![tactic(auto)]
 
 mod connections;
-mod cutting;
 mod groups;
 pub mod laws;
 mod names;

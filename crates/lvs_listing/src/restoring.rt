@@ -4,11 +4,12 @@ ghost use Rattle.lvs_types.specs.declared.script.WordsCause.{WordsCause};
 ghost use Rattle.lvs_admin.specs.declared.refused.WordsRefused.{WordsRefused};
 ghost use Rattle.lvs_model.specs.AdminLines.{line_of_words};
 ghost use Rattle.lvs_model.specs.Restoring.{command_of_line, saved_line, at_line, restored};
-ghost use Rattle.lvs_listing.specs.Texts.{texts, with_command};
+ghost use Rattle.lvs_lines.specs.Texts.{texts};
+ghost use Rattle.lvs_listing.specs.Texts.{with_command};
 
-use crate::cutting::{cut_line, is_readable, is_skipped, without_return, words_of};
 use crate::refused::RestoreRefused;
 use lvs_admin::{WordsRefused, read_word_slices};
+use lvs_lines::{cut_line, is_readable, is_skipped, without_return, words_of};
 use lvs_types::{Command, Line, WordsCause};
 use std::alloc::Global;
 

@@ -1,4 +1,3 @@
-pub mod Splits
 pub mod Digits
 pub mod Reading
 pub mod Numerals

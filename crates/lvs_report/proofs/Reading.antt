@@ -7,7 +7,7 @@ use Rattle.lvs_types.specs.declared.report.ReportLine.{ReportLine}
 use Rattle.lvs_model.specs.Lines.{is_feed, cut_by}
 use Rattle.lvs_model.specs.ReportReading.{LineRead, line_read, onto, read_then, lines_from, ended}
 use Rattle.lvs_report.specs.Reader.{ReadSoFar, with_read, with_line}
-use Rattle.lvs_report.proofs.Splits.{cut_pair, split_found, split_missed}
+use Rattle.lvs_lines.proofs.Splits.{cut_pair, split_found, split_missed}
 
 abbrev Answer : Type 0
 Answer = Result (List ReportLine) ℕ

@@ -1,27 +1,11 @@
-//! Cutting a report into lines, and a line into its parts. Nothing is copied.
+//! Cutting a line of a report into its parts. Nothing is copied.
 ghost use Rattle.std.specs.Prelude.{◌≡◌, ◌<◌, ◌≤◌, ◌+◌, ◌==◌, length, IfSome};
 ghost use Rattle.std.specs.List.{position};
 ghost use Rattle.std.specs.Option.{option_map};
 ghost use Rattle.lvs_model.specs.Decimals.{cut_at};
-ghost use Rattle.lvs_model.specs.Lines.{is_feed, cut_by};
 ghost use Rattle.lvs_model.specs.ReportReading.{behind, number_up_to};
 
 use crate::numbers::plain_number;
-
-fn place_of_feed(text: &[u8]) -> Option<usize>
-    ensures { result ≡ position is_feed text.now }
-{
-    text.iter().position(|byte| *byte == b'\n')
-}
-
-/// What stands before the first line feed, and what stands behind it.
-pub(crate) fn cut_line(text: &[u8]) -> Option<(&[u8], &[u8])>
-    ensures shorter { IfSome result (λ parts. length parts.1.now < length text.now) }
-    ensures value { option_map (λ parts. (parts.0.now, parts.1.now)) result ≡ cut_by is_feed text.now }
-{
-    let at = place_of_feed(text)?;
-    Some((&text[..at], &text[at + 1..]))
-}
 
 fn place_of(byte: u8, text: &[u8]) -> Option<usize>
     ensures { result ≡ position (λ b. b == byte) text.now }

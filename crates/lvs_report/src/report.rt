@@ -3,9 +3,9 @@ ghost use Rattle.std.specs.Prelude.{◌≡◌, ℕ, IfOk, OnOk, Ok, Err, Some, N
 ghost use Rattle.lvs_model.specs.ReportReading.{line_read, report_of};
 ghost use Rattle.lvs_report.specs.Reader.{with_line};
 
-use crate::cutting::cut_line;
 use crate::reader::ReportReader;
 use crate::refused::{ReportRefused, Stop};
+use lvs_lines::cut_line;
 use lvs_types::ReportLine;
 use std::alloc::Global;
 

@@ -1,4 +1,3 @@
-pub mod Splits
 pub mod LineLemmas
 pub mod Numbered
 pub mod Numbers

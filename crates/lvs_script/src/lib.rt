@@ -3,7 +3,6 @@
 
 mod actors;
 mod counting;
-mod cutting;
 mod generator;
 mod items;
 mod kinds;

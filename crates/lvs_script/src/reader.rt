@@ -2,14 +2,15 @@
 ghost use Rattle.std.specs.Prelude.{◌≡◌, length, [], None, OnOk, IfOk, Ok, Err};
 ghost use Rattle.lvs_types.specs.declared.script.ScriptCause.{ScriptCause};
 ghost use Rattle.lvs_model.specs.Scripts.{empty_script, rounds_read, checked_place, with_line, take_local, checked_round, take_at, take_round_line, take_kind, take_words, take_line, script_read};
-ghost use Rattle.lvs_script.specs.Texts.{texts, read_or_refused};
+ghost use Rattle.lvs_lines.specs.Texts.{texts};
+ghost use Rattle.lvs_script.specs.Texts.{read_or_refused};
 
 use crate::counting::count_items;
-use crate::cutting::{is_readable, is_skipped, words_of};
 use crate::kinds::line_named;
 use crate::round_lines::round_line;
 use crate::stop::Stop;
 use crate::values::{addr, number, one_word};
+use lvs_lines::{is_readable, is_skipped, words_of};
 use lvs_model::script::LineName;
 use lvs_types::{Addr, Listed, NoMemory, Round, Script, ScriptCause, ScriptLine};
 use std::alloc::Global;

@@ -4,7 +4,7 @@ ghost use Rattle.lvs_types.specs.declared.script.ScriptCause.{ScriptCause};
 ghost use Rattle.lvs_model.specs.AdminLines.{line_of_words};
 ghost use Rattle.lvs_model.specs.SysctlWords.{setting_of_words};
 ghost use Rattle.lvs_model.specs.Scripts.{line_of_admin, line_of_setting, listing_line, round_line};
-ghost use Rattle.lvs_script.specs.Texts.{texts};
+ghost use Rattle.lvs_lines.specs.Texts.{texts};
 
 use crate::stop::Stop;
 use crate::values::{bytes, no_words, number, one_word, two_words};

@@ -4,9 +4,9 @@ ghost use Rattle.lvs_types.specs.declared.script.ScriptCause.{ScriptCause};
 ghost use Rattle.lvs_model.specs.Scripts.{take_line, take_lines, script_of};
 ghost use Rattle.lvs_model.specs.Lines.{lines_of};
 
-use crate::cutting::{cut_line, without_return};
 use crate::reader::ScriptReader;
 use crate::stop::{ScriptRefused, Stop};
+use lvs_lines::{cut_line, without_return};
 use lvs_types::Script;
 use std::alloc::Global;
 

@@ -4,7 +4,7 @@ ghost use Rattle.lvs_types.specs.declared.script.ScriptCause.{ScriptCause};
 ghost use Rattle.lvs_types.specs.declared.script.ScriptCause.TheVariants as cause;
 ghost use Rattle.lvs_model.specs.Decimals.{addr_of};
 ghost use Rattle.lvs_model.specs.Scripts.{needed, bytes_of, no_words, one_word, two_words, number_given};
-ghost use Rattle.lvs_script.specs.Texts.{texts};
+ghost use Rattle.lvs_lines.specs.Texts.{texts};
 
 use crate::stop::Stop;
 use hex::FromHexError;

@@ -2,7 +2,7 @@ use Rattle.std.proofs.Common.{◌≡◌, [], ◌<◌, true, false, ◌+◌, leng
 use Rattle.lvs_model.specs.Lines.{lines_of, without_return}
 use Rattle.lvs_model.specs.Restoring.{saved_commands}
 use Rattle.lvs_listing.specs.declared.refused.RestoreRefused.TheVariants as refusal
-use Rattle.lvs_listing.proofs.Cuts.{lines_cut, last_line, no_line}
+use Rattle.lvs_lines.proofs.Cuts.{lines_cut, last_line, no_line}
 use Rattle.lvs_listing.proofs.Commands.{lines_step, lines_stop, lines_done}
 use Rattle.lvs_listing.proofs.restoring.restore.Goals as goal
 

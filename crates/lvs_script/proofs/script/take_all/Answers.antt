@@ -2,7 +2,8 @@ use Rattle.std.proofs.Common.{◌≡◌, sym, [], ◌<◌, false, length, Err, r
 use Rattle.lvs_model.specs.Lines.{lines_of, without_return}
 use Rattle.lvs_model.specs.Scripts.{take_lines}
 use Rattle.lvs_script.specs.declared.stop.ScriptRefused.TheVariants as refusal
-use Rattle.lvs_script.proofs.LineLemmas.{lines_cut, last_line, lines_step, lines_stop}
+use Rattle.lvs_lines.proofs.Cuts.{lines_cut, last_line}
+use Rattle.lvs_script.proofs.LineLemmas.{lines_step, lines_stop}
 use Rattle.lvs_script.proofs.script.take_all.Goals as goal
 
 pub loop-line-preserved : goal.loop-line-preserved

@@ -3,7 +3,7 @@ use Rattle.std.proofs.Common.{◌≡◌, ℕ, ◌<◌, Bool, true, false, cond, 
 use Rattle.std.specs.List.{slice_split}
 use Rattle.std.proofs.lemmas.List.Splits.{length-slice_split}
 use Rattle.lvs_model.specs.Lines.{is_feed, is_blank, without_return, lines_of_pieces, lines_of, is_full, words_of, cut_by}
-use Rattle.lvs_listing.proofs.Splits.{cut_pair, split_found, split_missed}
+use Rattle.lvs_lines.proofs.Splits.{cut_pair, split_found, split_missed}
 
 pub more_pieces : (piece : List ℕ) (pieces : List (List ℕ)) → 0 < length pieces → lines_of_pieces (piece ∷ pieces) ≡ without_return piece ∷ lines_of_pieces pieces
 more_pieces piece [] some = absurd (omega arith)

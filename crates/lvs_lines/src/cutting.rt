@@ -2,7 +2,7 @@
 ghost use Rattle.std.specs.Prelude.{◌≡◌, ◌<◌, ◌≤◌, ◌+◌, ◌++◌, ◌∷◌, [], length, filter, IfSome, IfOk, OnOk};
 ghost use Rattle.std.specs.List.{position, list_all};
 ghost use Rattle.std.specs.Option.{option_map};
-ghost use Rattle.lvs_listing.specs.Texts.{texts, texts_in};
+ghost use Rattle.lvs_lines.specs.Texts.{texts, texts_in};
 ghost use Rattle.lvs_model.specs.Lines.{is_feed, is_blank, without_return, is_full, words_of, cut_by, is_printable, is_readable, is_comment, is_skipped};
 
 use lvs_types::NoMemory;
@@ -28,7 +28,7 @@ fn place_of_blank(text: &[u8]) -> Option<usize>
 }
 
 /// What stands before the first line feed, and what stands behind it.
-pub(crate) fn cut_line(text: &[u8]) -> Option<(&[u8], &[u8])>
+pub fn cut_line(text: &[u8]) -> Option<(&[u8], &[u8])>
     ensures shorter { IfSome result (λ parts. length parts.1.now < length text.now) }
     ensures value { option_map (λ parts. (parts.0.now, parts.1.now)) result ≡ cut_by is_feed text.now }
 {
@@ -46,7 +46,7 @@ fn cut_word(text: &[u8]) -> Option<(&[u8], &[u8])>
 }
 
 /// A line without the carriage return that ends it.
-pub(crate) fn without_return(line: &[u8]) -> &[u8]
+pub fn without_return(line: &[u8]) -> &[u8]
     ensures { result.now ≡ without_return line.now }
 {
     match line {
@@ -66,7 +66,7 @@ fn push_piece<'a>(words: &mut Vec<&'a [u8]>, piece: &'a [u8]) -> Result<(), NoMe
 }
 
 /// The words of a line.
-pub(crate) fn words_of(alloc: Global, line: &[u8]) -> Result<Vec<&[u8]>, NoMemory>
+pub fn words_of(alloc: Global, line: &[u8]) -> Result<Vec<&[u8]>, NoMemory>
     ensures { IfOk result (λ words. texts_in words ≡ words_of line.now) }
 {
     let mut words = Vec::new(alloc);
@@ -86,7 +86,7 @@ fn is_printable(byte: u8) -> bool
 }
 
 /// Whether a line holds printable bytes and tabs alone.
-pub(crate) fn is_readable(line: &[u8]) -> bool
+pub fn is_readable(line: &[u8]) -> bool
     ensures { result ≡ is_readable line.now }
 {
     line.iter().all(|byte| is_printable(*byte))
@@ -102,7 +102,7 @@ fn is_comment(word: &[u8]) -> bool
 }
 
 /// Whether a line has no words, or its first word begins a comment.
-pub(crate) fn is_skipped(words: &[&[u8]]) -> bool
+pub fn is_skipped(words: &[&[u8]]) -> bool
     ensures { result ≡ is_skipped (texts words.now) }
 {
     match words {

@@ -1,8 +1,8 @@
 use Rattle.std.proofs.Common.{◌≡◌, ◌∙◌, sym, ap, List, ℕ, [], ◌∷◌, ◌++◌, filter, append_assoc}
 use Rattle.lvs_model.specs.Lines.{is_full, words_of}
-use Rattle.lvs_listing.specs.Texts.{texts_in}
-use Rattle.lvs_listing.proofs.Cuts.{words_cut, words_end}
-use Rattle.lvs_listing.proofs.cutting.words_of.Goals as goal
+use Rattle.lvs_lines.specs.Texts.{texts_in}
+use Rattle.lvs_lines.proofs.Cuts.{words_cut, words_end}
+use Rattle.lvs_lines.proofs.cutting.words_of.Goals as goal
 
 pub loop-piece-preserved : goal.loop-piece-preserved
 loop-piece-preserved c =

@@ -1,7 +1,7 @@
 use Rattle.std.proofs.Common.{◌≡◌, ◌++◌, length}
 use Rattle.lvs_model.specs.Lines.{words_of}
-use Rattle.lvs_listing.specs.Texts.{texts_in}
-use Rattle.lvs_listing.proofs.cutting.words_of.Given as goal
+use Rattle.lvs_lines.specs.Texts.{texts_in}
+use Rattle.lvs_lines.proofs.cutting.words_of.Given as goal
 
 abbrev pub invariant-loop-piece : goal.invariant-loop-piece
 invariant-loop-piece l = texts_in l.words ++ words_of l.rest ≡ words_of l.line
