@@ -1,5 +1,5 @@
 //! The rows of servers in groups by their service, so that a service looks through few of them.
-ghost use Rattle.std.specs.Prelude.{◌≡◌, ◌<◌, ◌++◌, ◌∷◌, List, [], length, OnOk, IfOk};
+ghost use Rattle.std.specs.Prelude.{◌≡◌, ◌<◌, ◌++◌, ◌∷◌, List, [], length, max, OnOk, IfOk};
 ghost use Rattle.lvs_types.specs.declared.dest.DestRow.{DestRow};
 ghost use Rattle.lvs_model.specs.Listings.{rows_of};
 ghost use Rattle.lvs_listing.specs.Grouped.{key_number, group_of, AreGrouped, HasRow};
@@ -110,7 +110,8 @@ impl Model for Groups {
 impl Groups {
     /// So many groups, at least one, without rows.
     fn new(alloc: Global, count: usize) -> Result<Groups, NoMemory>
-        ensures { IfOk result (λ groups. AreGrouped groups []) }
+        ensures empty { IfOk result (λ groups. AreGrouped groups []) }
+        ensures count { IfOk result (λ groups. length groups ≡ max count 1) }
     {
         Ok(Groups {
             groups: make_groups(alloc, count.max(1))?,
@@ -119,7 +120,8 @@ impl Groups {
 
     /// Puts a row behind those of its group.
     fn push(&mut self, row: DestRow) -> Result<(), NoMemory>
-        ensures { OnOk result (HasRow self.old row self.new) }
+        ensures row { OnOk result (HasRow self.old row self.new) }
+        ensures count { length self.new ≡ length self.old }
     {
         let at = group_of(self.groups.len(), row.dest.service);
         self.groups[at].push(row)?;
@@ -128,7 +130,8 @@ impl Groups {
 
     /// The rows, in so many groups, at least one.
     pub(crate) fn of(alloc: Global, count: usize, rows: &[DestRow]) -> Result<Groups, NoMemory>
-        ensures { IfOk result (λ groups. AreGrouped groups rows.now) }
+        ensures grouped { IfOk result (λ groups. AreGrouped groups rows.now) }
+        ensures count { IfOk result (λ groups. length groups ≡ max count 1) }
     {
         let mut groups = Groups::new(alloc, count)?;
         for row in rows {

@@ -6,8 +6,8 @@ use Rattle.lvs_listing.specs.Grouped.{AreGrouped}
 use Rattle.lvs_listing.proofs.Grouping.{grouped_put}
 use Rattle.lvs_listing.proofs.groups.Groups.push.Goals as goal
 
-pub returns : goal.returns
-returns c = λ rows grouped.
+pub returns-clause-row : goal.returns-clause-row
+returns-clause-row c = λ rows grouped.
     let groups = c.self.inside.groups.items in
     let there : slice_get groups c.group_of-at.result ≡ Some c.index_mut.result.now = grind (arith, common_steps, gets) in
     let added : c.push.new.self ≡ c.index_mut.result.now ++ c.args.row ∷ [] = search rules in
