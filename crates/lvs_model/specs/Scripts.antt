@@ -2,6 +2,7 @@
 use Rattle.std.specs.Prelude.{ℕ, ◌+◌, ◌==◌, Bool, true, false, not, ◌||◌, List, [], ◌∷◌, ◌++◌, length, Option, Some, None, Result, Ok, Err, if◌then◌else◌, is_some, unwrap_or, nat_lt, nat_le, find, codes, bytes_eq}
 use Rattle.hex.specs.Hex.{decode_of}
 use Rattle.hex.specs.declared.error.FromHexError.{FromHexError}
+use Rattle.lvs_types.specs.Limits.{max_rounds, max_items}
 use Rattle.lvs_types.specs.declared.addr.Addr.{Addr}
 use Rattle.lvs_types.specs.declared.script.Script.{Script}
 use Rattle.lvs_types.specs.declared.script.Round.{Round}
@@ -25,14 +26,6 @@ use Rattle.lvs_model.specs.Lines.{lines_of, words_of, is_readable, is_skipped}
 use Rattle.lvs_model.specs.AdminLines.{line_of_words}
 use Rattle.lvs_model.specs.SysctlWords.{setting_of_words}
 use Rattle.lvs_model.specs.Plans.{items_of_line}
-
--- LIMITS
-
-abbrev pub max_rounds : ℕ
-max_rounds = 4096
-
-abbrev pub max_items : ℕ
-max_items = 1048576
 
 -- THE KINDS OF LINES
 

@@ -4,7 +4,7 @@ use Rattle.lvs_types.specs.declared.script.Round.{Round}
 use Rattle.lvs_types.specs.declared.book.Placed.{Placed}
 use Rattle.lvs_types.specs.declared.item.Item.{Item}
 use Rattle.lvs_model.specs.Plans.{items_of_lines}
-use Rattle.lvs_model.specs.Scripts.{max_items, max_rounds}
+use Rattle.lvs_types.specs.Limits.{max_items, max_rounds}
 
 -- no moment is past 2 ^ 32 - 1
 abbrev pub AreMoments : List Round → Type 0
