@@ -34,6 +34,8 @@ pub mod Clock
 pub mod Learning
 pub mod Sending
 pub mod Step
+pub mod Buckets
+pub mod BucketExamples
 pub mod Snapshots
 pub mod Plans
 pub mod Generated

@@ -1,4 +1,5 @@
 //! Worked examples of the definitions, which the prover computes.
+pub mod buckets;
 pub mod demo;
 pub mod director;
 pub mod hashes;
