@@ -56,3 +56,7 @@ pub mod Restoring
 pub mod ReportReading
 pub mod ReportLines
 pub mod FaultLines
+pub mod ScriptLimits
+pub mod CaptureFiles
+pub mod Captured
+pub mod Pairs

@@ -2,6 +2,7 @@
 #![tactic(auto)]
 
 pub mod admin;
+pub mod capture;
 pub mod laws;
 mod numbers;
 pub mod script;
