@@ -50,6 +50,8 @@ pub mod Counted
 pub mod WellFormed
 pub mod Lines
 pub mod Scripts
+pub mod IcmpErrors
+pub mod ErrorExamples
 pub mod Listings
 pub mod Legal
 pub mod Restoring

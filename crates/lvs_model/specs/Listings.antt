@@ -19,11 +19,13 @@ use Rattle.lvs_types.specs.declared.snapshot.Snapshot.{Snapshot}
 use Rattle.lvs_types.specs.declared.book.Shown.{Shown}
 use Rattle.lvs_types.specs.declared.book.Shown.TheVariants as shown
 use Rattle.lvs_types.specs.declared.book.ShownText.{ShownText}
+use Rattle.lvs_types.specs.declared.icmp.Side.TheVariants.{Inward, Outward}
 use Rattle.lvs_model.specs.State.{State}
 use Rattle.lvs_model.specs.Lookups.{is_server_of}
 use Rattle.lvs_model.specs.Snapshots.{snapshot_of}
 use Rattle.lvs_model.specs.AdminTables.{scheduler_name}
 use Rattle.lvs_model.specs.Report.{addr_text}
+use Rattle.lvs_model.specs.IcmpErrors.{icmp_answer, icmp_text}
 
 -- PIECES
 
@@ -181,13 +183,13 @@ save_text tables = saved_services tables.dests tables.services
 
 -- WHAT IS SHOWN
 
--- the lines of a listing; no line of a script asks for an answer to an ICMP error so far, and none is shown
+-- the lines of a listing, or the line of the answer to an ICMP error
 abbrev pub text_of : Snapshot → Shown → List ℕ
 text_of tables shown.List = list_text tables
 text_of tables shown.Conns = conns_text tables
 text_of tables shown.Save = save_text tables
-text_of tables (shown.IcmpIn bytes) = []
-text_of tables (shown.IcmpOut bytes) = []
+text_of tables (shown.IcmpIn bytes) = icmp_text (icmp_answer tables Inward bytes)
+text_of tables (shown.IcmpOut bytes) = icmp_text (icmp_answer tables Outward bytes)
 
 -- a listing of a director as it is now
 abbrev pub shown_text : State → Shown → ShownText

@@ -1,5 +1,5 @@
 -- What a reader finds in the report of a round, and which rounds' reports are read again (this project's profile).
-use Rattle.std.specs.Prelude.{◌≡◌, ℕ, ◌+◌, ◌<◌, ◌^◌, Bool, true, false, not, ◌&&◌, ◌==◌, List, [], ◌∷◌, ◌++◌, map, length, if◌then◌else◌}
+use Rattle.std.specs.Prelude.{◌≡◌, ℕ, ◌+◌, ◌<◌, ◌^◌, Bool, true, false, not, ◌&&◌, ◌==◌, List, [], ◌∷◌, ◌++◌, map, length, if◌then◌else◌, nat_lt}
 use Rattle.std.specs.List.{slice_split, list_all, AllByRecursion}
 use Rattle.lvs_types.specs.declared.book.Noted.{Noted}
 use Rattle.lvs_types.specs.declared.book.RoundBook.{RoundBook}
@@ -33,17 +33,24 @@ are_lines (text ∷ next ∷ more) = not (is_end text) && are_lines (next ∷ mo
 abbrev pub is_listing_text : List ℕ → Bool
 is_listing_text text = are_lines (slice_split is_feed text)
 
--- `list`, `conns` or `save`
-abbrev pub is_table : Shown → Bool
-is_table shown.List = true
-is_table shown.Conns = true
-is_table shown.Save = true
-is_table (shown.IcmpIn bytes) = false
-is_table (shown.IcmpOut bytes) = false
+abbrev pub is_byte : ℕ → Bool
+is_byte n = nat_lt n 256
 
--- a listing whose end is found where it was printed
+-- bytes, at least one
+abbrev pub are_some_bytes : List ℕ → Bool
+are_some_bytes bytes = not (length bytes == 0) && list_all is_byte bytes
+
+-- a listing whose first line names it: an ICMP error has at least one byte
+abbrev pub is_named : Shown → Bool
+is_named shown.List = true
+is_named shown.Conns = true
+is_named shown.Save = true
+is_named (shown.IcmpIn bytes) = are_some_bytes bytes
+is_named (shown.IcmpOut bytes) = are_some_bytes bytes
+
+-- a listing whose first line and whose end are found where they were printed
 abbrev pub is_read_again : ShownText → Bool
-is_read_again listing = is_table listing.kind && is_listing_text listing.text
+is_read_again listing = is_named listing.kind && is_listing_text listing.text
 
 -- the numbers of an act are within the range of their fields
 abbrev pub IsActInRange : Noted → Type 0

@@ -1,7 +1,9 @@
 -- Reading a report: its heads, acts and listings, or the first line outside the grammar (this project's profile).
-use Rattle.std.specs.Prelude.{ℕ, ◌+◌, Bool, true, false, not, ◌&&◌, ◌==◌, List, [], ◌∷◌, ◌++◌, length, take, drop, Option, Some, None, Result, Ok, Err, if◌then◌else◌, nat_le, find, codes, bytes_eq, option_map}
+use Rattle.std.specs.Prelude.{ℕ, ◌+◌, Bool, true, false, not, ◌&&◌, ◌||◌, ◌==◌, List, [], ◌∷◌, ◌++◌, length, take, drop, Option, Some, None, Result, Ok, Err, if◌then◌else◌, nat_le, find, codes, bytes_eq, option_map}
 use Rattle.std.specs.List.{slice_split, list_all}
 use Rattle.std.specs.Char.{is_ascii_digit}
+use Rattle.hex.specs.Hex.{decode_of}
+use Rattle.hex.specs.declared.error.FromHexError.{FromHexError}
 use Rattle.lvs_types.specs.declared.book.Shown.{Shown}
 use Rattle.lvs_types.specs.declared.book.Shown.TheVariants as shown
 use Rattle.lvs_types.specs.declared.book.ShownText.{ShownText}
@@ -77,18 +79,44 @@ act_of text = do
   reply ← filled number.1
   Some (line.Act place.0 actor.0 number.0 reply)
 
--- the listings that a report may have
-abbrev pub listings : List Shown
-listings = shown.List ∷ shown.Conns ∷ shown.Save ∷ []
-
--- the first line of a listing: a listing without lines so far
-abbrev pub listing_of : List ℕ → Option ReportLine
-listing_of text = option_map (λ (kind : Shown). line.Shown (record { kind = kind; text = [] })) (find (λ (kind : Shown). bytes_eq text (shown_name kind)) listings)
-
 -- the second where the first is none
 abbrev pub or_else : {A : Type 0} → Option A → Option A → Option A
 or_else None other = other
 or_else (Some x) other = Some x
+
+-- the listings that are named by one word
+abbrev pub listings : List Shown
+listings = shown.List ∷ shown.Conns ∷ shown.Save ∷ []
+
+abbrev pub table_named : List ℕ → Option Shown
+table_named text = find (λ (kind : Shown). bytes_eq text (shown_name kind)) listings
+
+-- 0 to 9, or a to f (97 to 102)
+abbrev pub is_lower_digit : ℕ → Bool
+is_lower_digit byte = is_ascii_digit byte || (nat_le 97 byte && nat_le byte 102)
+
+abbrev pub bytes_decoded : Result (List ℕ) FromHexError → Option (List ℕ)
+bytes_decoded (Ok bytes) = Some bytes
+bytes_decoded (Err why) = None
+
+-- an even number of lower-case hexadecimal digits, at least two
+abbrev pub lower_bytes : List ℕ → Option (List ℕ)
+lower_bytes digits = if list_all is_lower_digit digits && not (length digits == 0) then bytes_decoded (decode_of digits) else None
+
+-- these words, and the bytes of an ICMP error behind them
+abbrev pub error_named : List ℕ → (List ℕ → Shown) → List ℕ → Option Shown
+error_named words kind text = do
+  digits ← behind words text
+  bytes ← lower_bytes digits
+  Some (kind bytes)
+
+-- what a first line shows: `list`, `conns`, `save`, `icmp in HEX` or `icmp out HEX`
+abbrev pub shown_named : List ℕ → Option Shown
+shown_named text = or_else (table_named text) (or_else (error_named (codes "icmp in ") shown.IcmpIn text) (error_named (codes "icmp out ") shown.IcmpOut text))
+
+-- the first line of a listing: a listing without lines so far
+abbrev pub listing_of : List ℕ → Option ReportLine
+listing_of text = option_map (λ (kind : Shown). line.Shown (record { kind = kind; text = [] })) (shown_named text)
 
 abbrev pub line_of : List ℕ → Option ReportLine
 line_of text = or_else (head_of text) (or_else (act_of text) (listing_of text))

@@ -16,6 +16,8 @@ use Rattle.lvs_types.specs.declared.command.Line.{Line}
 use Rattle.lvs_types.specs.declared.command.Line.TheVariants.{Edit, Show}
 use Rattle.lvs_types.specs.declared.book.Shown.{Shown}
 use Rattle.lvs_types.specs.declared.book.Shown.TheVariants as shown
+use Rattle.lvs_types.specs.declared.icmp.Side.{Side}
+use Rattle.lvs_types.specs.declared.icmp.Side.TheVariants.{Inward, Outward}
 use Rattle.lvs_model.specs.declared.admin.BadWord.{BadWord}
 use Rattle.lvs_model.specs.declared.script.LineName.{LineName}
 use Rattle.lvs_model.specs.declared.script.LineName.TheVariants as name
@@ -41,9 +43,10 @@ line_name name.Sync = codes "sync"
 line_name name.List = codes "list"
 line_name name.Conns = codes "conns"
 line_name name.Save = codes "save"
+line_name name.Icmp = codes "icmp"
 
 abbrev pub line_names : List LineName
-line_names = name.Local ∷ name.At ∷ name.Ipvs ∷ name.Sysctl ∷ name.Incoming ∷ name.Outgoing ∷ name.Sync ∷ name.List ∷ name.Conns ∷ name.Save ∷ []
+line_names = name.Local ∷ name.At ∷ name.Ipvs ∷ name.Sysctl ∷ name.Incoming ∷ name.Outgoing ∷ name.Sync ∷ name.List ∷ name.Conns ∷ name.Save ∷ name.Icmp ∷ []
 
 -- the kind of line that a first word names
 abbrev pub line_named : List ℕ → Option LineName
@@ -136,6 +139,23 @@ listing_line kind words = do
   _ ← no_words words
   Ok (line.Show kind)
 
+-- the side that an ICMP error comes from
+abbrev pub side_of_word : List ℕ → Option Side
+side_of_word word = if bytes_eq word (codes "in") then Some Inward else if bytes_eq word (codes "out") then Some Outward else None
+
+-- the answer to an ICMP error, which stands among the listings
+abbrev pub icmp_shown : Side → List ℕ → Shown
+icmp_shown Inward bytes = shown.IcmpIn bytes
+icmp_shown Outward bytes = shown.IcmpOut bytes
+
+-- `in HEX` or `out HEX`; another word than `in` and `out` counts as a wrong number of words
+abbrev pub icmp_line : List (List ℕ) → Result ScriptLine ScriptCause
+icmp_line words = do
+  both ← two_words words
+  side ← needed cause.WordCount (side_of_word both.0)
+  bytes ← bytes_of both.1
+  Ok (line.Show (icmp_shown side bytes))
+
 -- the line of a round, from the words behind its first; `local` and `at` make none
 abbrev pub round_line : LineName → List (List ℕ) → Result ScriptLine ScriptCause
 round_line name.Ipvs words = line_of_admin (line_of_words words)
@@ -156,6 +176,7 @@ round_line name.Sync words = do
 round_line name.List words = listing_line shown.List words
 round_line name.Conns words = listing_line shown.Conns words
 round_line name.Save words = listing_line shown.Save words
+round_line name.Icmp words = icmp_line words
 round_line name.Local words = Err cause.UnknownLine
 round_line name.At words = Err cause.UnknownLine
 

@@ -14,6 +14,7 @@ pub enum LineName {
     List,
     Conns,
     Save,
+    Icmp,
 }
 
 /// A refused line.

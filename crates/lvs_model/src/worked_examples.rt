@@ -3,6 +3,7 @@ pub mod buckets;
 pub mod captures;
 pub mod demo;
 pub mod director;
+pub mod errors;
 pub mod hashes;
 pub mod kept;
 pub mod listings;
