@@ -1,10 +1,9 @@
-//! The commands, options and schedulers of ipvsadm(8), as tables.
+//! The commands and options of ipvsadm(8), as tables.
 ghost use Rattle.std.specs.Prelude.{◌≡◌, bytes_eq};
 ghost use Rattle.lvs_model.specs.AdminWords.{awaited_after};
-ghost use Rattle.lvs_model.specs.AdminTables.{is_either, names_command, command_of, names_option, option_of, allowed, allows, scheduler_name, scheduler_of, option_number};
+ghost use Rattle.lvs_model.specs.AdminTables.{is_either, names_command, command_of, names_option, option_of, allowed, allows, option_number};
 
 use lvs_model::admin::{Awaited, CommandName, OptionName};
-use lvs_types::Scheduler;
 
 /// All commands.
 const COMMANDS: [CommandName; 12] = [
@@ -42,21 +41,6 @@ const OPTIONS: [OptionName; 18] = [
     OptionName::Connection,
     OptionName::SyncId,
     OptionName::McastInterface,
-];
-
-/// All schedulers.
-const SCHEDULERS: [Scheduler; 11] = [
-    Scheduler::Rr,
-    Scheduler::Wrr,
-    Scheduler::Lc,
-    Scheduler::Wlc,
-    Scheduler::Sed,
-    Scheduler::Nq,
-    Scheduler::Sh,
-    Scheduler::Dh,
-    Scheduler::Fo,
-    Scheduler::Ovf,
-    Scheduler::Mh,
 ];
 
 pub(crate) fn is_name(name: &[u8], word: &[u8]) -> bool
@@ -119,25 +103,6 @@ fn names_option(word: &[u8], option: OptionName) -> bool
     }
 }
 
-/// The names of the schedulers.
-fn scheduler_name(scheduler: Scheduler) -> &'static [u8]
-    ensures { result.now ≡ scheduler_name scheduler }
-{
-    match scheduler {
-        Scheduler::Rr => b"rr",
-        Scheduler::Wrr => b"wrr",
-        Scheduler::Lc => b"lc",
-        Scheduler::Wlc => b"wlc",
-        Scheduler::Sed => b"sed",
-        Scheduler::Nq => b"nq",
-        Scheduler::Sh => b"sh",
-        Scheduler::Dh => b"dh",
-        Scheduler::Fo => b"fo",
-        Scheduler::Ovf => b"ovf",
-        Scheduler::Mh => b"mh",
-    }
-}
-
 /// The options that may stand with a command.
 #[rattlefmt::skip]
 fn allowed(command: CommandName) -> &'static [OptionName]
@@ -179,16 +144,6 @@ pub(crate) fn option_of(word: &[u8]) -> Option<OptionName>
         .iter()
         .copied()
         .find(|option| names_option(word, *option))
-}
-
-/// The scheduler that a word names.
-pub(crate) fn scheduler_of(word: &[u8]) -> Option<Scheduler>
-    ensures { result ≡ scheduler_of word.now }
-{
-    SCHEDULERS
-        .iter()
-        .copied()
-        .find(|scheduler| is_name(scheduler_name(*scheduler), word))
 }
 
 /// Whether an option may stand with a command.

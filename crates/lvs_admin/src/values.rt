@@ -1,14 +1,14 @@
 //! The values of options, or the refused word.
 ghost use Rattle.std.specs.Prelude.{◌≡◌, ◌≤◌, bytes_eq};
 ghost use Rattle.lvs_types.specs.declared.script.WordsCause.TheVariants as cause;
+ghost use Rattle.lvs_types.specs.Schedulers.{scheduler_named};
 ghost use Rattle.lvs_model.specs.Refusals.{refused, needed};
 ghost use Rattle.lvs_model.specs.Decimals.{number_between, endpoint_of, mask_of};
-ghost use Rattle.lvs_model.specs.AdminTables.{scheduler_of};
 ghost use Rattle.lvs_model.specs.AdminWords.{role_of};
 
 use crate::decimals::{read_between, read_endpoint, read_mask};
 use crate::refused::bad;
-use crate::tables::{is_name, scheduler_of};
+use crate::tables::is_name;
 use lvs_model::admin::{BadWord, DaemonRole, Endpoint};
 use lvs_types::{Scheduler, WordsCause};
 
@@ -45,9 +45,9 @@ pub(crate) fn mask(at: usize, word: &[u8]) -> Result<u8, BadWord>
 
 /// The name of a scheduler.
 pub(crate) fn scheduler(at: usize, word: &[u8]) -> Result<Scheduler, BadWord>
-    ensures { result ≡ needed at cause.BadScheduler (scheduler_of word.now) }
+    ensures { result ≡ needed at cause.BadScheduler (scheduler_named word.now) }
 {
-    scheduler_of(word).ok_or(bad(at, WordsCause::BadScheduler))
+    Scheduler::named(word).ok_or(bad(at, WordsCause::BadScheduler))
 }
 
 /// `master` or `backup`.

@@ -4,7 +4,8 @@ use Rattle.lvs_types.specs.declared.addr.Addr.{Addr}
 use Rattle.lvs_types.specs.declared.service.ServiceKey.{ServiceKey}
 use Rattle.lvs_types.specs.declared.service.ServiceKey.TheVariants.{Net, Mark}
 use Rattle.lvs_types.specs.declared.dest.DestRow.{DestRow}
-use Rattle.lvs_model.specs.Same.{proto_code, addr_eq}
+use Rattle.lvs_types.specs.Protocols.{proto_code}
+use Rattle.lvs_model.specs.Same.{addr_eq}
 use Rattle.lvs_dests.specs.declared.place.ServiceName.{ServiceName}
 use Rattle.lvs_dests.specs.declared.place.Place.{Place}
 

@@ -1,7 +1,7 @@
 //! Edits of the servers (ipvsadm(8), `-a`, `-e` and `-d`).
 ghost use Rattle.std.specs.Prelude.{◌≡◌, ◌≢◌, ◌↔◌, true, false, ◌<◌, ◌^◌, Ok, Err, IfOk, OnOk, OnErr};
 ghost use Rattle.std.specs.List.{find};
-ghost use Rattle.lvs_model.specs.Edits.{has_bad_thresholds};
+ghost use Rattle.lvs_types.specs.Thresholds.{has_bad_thresholds};
 ghost use Rattle.lvs_dests.specs.Rows.{is_known, is_row_at, placed, edit_answer, edited, remove_answer, removed_by, is_live_row};
 
 use crate::dests::Dests;
@@ -36,7 +36,7 @@ impl Dests {
         if is_live(&there) {
             return Err(DestRefused::Exists);
         }
-        if row::crosses(spec) {
+        if spec.has_bad_thresholds() {
             return Err(DestRefused::Thresholds);
         }
         match self.place(service, spec, there) {
@@ -56,7 +56,7 @@ impl Dests {
         let Some(row) = self.live_at(service, spec.addr, spec.port) else {
             return Err(DestRefused::NoDest);
         };
-        if row::crosses(spec) {
+        if spec.has_bad_thresholds() {
             return Err(DestRefused::Thresholds);
         }
         self.revise(row::respecify(&row, spec));

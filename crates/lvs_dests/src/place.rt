@@ -1,9 +1,8 @@
 //! Where a server stands: its service, address and port, as the tables are keyed.
 ghost use Rattle.std.specs.Prelude.{◌≡◌};
-ghost use Rattle.lvs_model.specs.Same.{proto_code};
 ghost use Rattle.lvs_dests.specs.Places.{name_of, place_at, place_of};
 
-use lvs_types::{Addr, DestRow, Proto, ServiceKey};
+use lvs_types::{Addr, DestRow, ServiceKey};
 
 /// The key of a service, as the tables are keyed.
 #[derive(Clone, Copy, Debug, PartialEq, Eq, Hash)]
@@ -22,7 +21,7 @@ impl ServiceName {
     {
         match *key {
             ServiceKey::Net { proto, addr, port } => ServiceName {
-                code: code_of(proto),
+                code: proto.code(),
                 number: addr.number,
                 port,
             },
@@ -32,15 +31,6 @@ impl ServiceName {
                 port: 0,
             },
         }
-    }
-}
-
-fn code_of(proto: Proto) -> u8
-    ensures { result ≡ proto_code proto }
-{
-    match proto {
-        Proto::Tcp => 6,
-        Proto::Udp => 17,
     }
 }
 

@@ -1,7 +1,6 @@
 //! A server with its three numbers, and what each event makes of it.
 ghost use Rattle.std.specs.Prelude.{◌≡◌, ◌+◌, ◌<◌, ◌^◌};
 ghost use Rattle.lvs_model.specs.Overload.{is_reached, is_relieved};
-ghost use Rattle.lvs_model.specs.Edits.{has_bad_thresholds};
 ghost use Rattle.lvs_model.specs.Binding.{serves_at};
 ghost use Rattle.lvs_model.specs.Counts.{is_eligible};
 ghost use Rattle.lvs_dests.specs.Rows.{row_total, is_unnamed, new_row, revived_row, respecified_row, out_of_service, raised, lowered, named, look_bound, look_ended, held, unheld, candidate_of_row, totals_of};
@@ -39,13 +38,6 @@ fn relieves(spec: &DestSpec, total: u128) -> bool
     spec.upper == 0
         || (spec.lower > 0 && total < spec.lower as u128)
         || (spec.lower == 0 && spec.upper > 0 && 4 * total < 3 * spec.upper as u128)
-}
-
-/// Whether the lower threshold is above the upper one.
-pub(crate) fn crosses(spec: &DestSpec) -> bool
-    ensures { result ≡ has_bad_thresholds spec.now }
-{
-    spec.upper < spec.lower
 }
 
 /// A new server, which nothing names.

@@ -6,7 +6,7 @@ use Rattle.lvs_types.specs.declared.addr.Addr.{Addr}
 use Rattle.lvs_types.specs.declared.service.Proto.{Proto}
 use Rattle.lvs_types.specs.declared.entry.Key.{Key}
 use Rattle.lvs_types.specs.declared.entry.Entry.{Entry}
-use Rattle.lvs_model.specs.Same.{proto_code}
+use Rattle.lvs_types.specs.Protocols.{proto_code}
 use Rattle.lvs_model.specs.Numbers.{mix}
 use Rattle.lvs_model.specs.Lookups.{has_key, has_entry_id, is_reply_of, entry_at, reply_entry}
 use Rattle.lvs_entries.specs.Chains.{chain_of, key_chain, is_in_chain}

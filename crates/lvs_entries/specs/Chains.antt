@@ -4,7 +4,7 @@ use Rattle.lvs_types.specs.declared.addr.Addr.{Addr}
 use Rattle.lvs_types.specs.declared.service.Proto.{Proto}
 use Rattle.lvs_types.specs.declared.entry.Key.{Key}
 use Rattle.lvs_types.specs.declared.entry.Entry.{Entry}
-use Rattle.lvs_model.specs.Same.{proto_code}
+use Rattle.lvs_types.specs.Protocols.{proto_code}
 use Rattle.lvs_model.specs.Numbers.{mix}
 
 -- which of 256 chains: by the eight bits below those that tell bucket and worker

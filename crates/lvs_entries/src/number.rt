@@ -1,27 +1,16 @@
 //! The number of a connection's chain.
 ghost use Rattle.std.specs.Prelude.{◌≡◌};
 ghost use Rattle.lvs_entries.specs.Chains.{chain_of as chain_by, key_chain};
-ghost use Rattle.lvs_model.specs.Same.{proto_code};
 
 use lvs_model::mix;
 use lvs_types::{Addr, Key, Proto};
-
-/// The number of a protocol (RFC 791, section 3.1).
-fn code(proto: Proto) -> u8
-    ensures { result ≡ proto_code proto }
-{
-    match proto {
-        Proto::Tcp => 6,
-        Proto::Udp => 17,
-    }
-}
 
 /// Which of the 256 chains the connections of a client's side stand in, so that packets of both
 /// directions look into one chain.
 pub(crate) fn chain_of(proto: Proto, client: Addr, port: u16) -> u8
     ensures { result ≡ chain_by proto client port }
 {
-    ((mix(code(proto), client, port) >> 8) % 256) as u8
+    ((mix(proto.code(), client, port) >> 8) % 256) as u8
 }
 
 /// The chain of a key.

@@ -1,6 +1,7 @@
 -- A packet on its way through the director, and the memory that was taken for it.
 use Rattle.std.specs.Prelude.{◌≡◌, ◌+◌, ◌≤◌, [], Ok, Some, length, vec_len, vec_capacity}
-use Rattle.lvs_model.specs.Packets.{Packet, transport_of}
+use Rattle.lvs_types.specs.Transport.{transport_of}
+use Rattle.lvs_model.specs.Packets.{Packet}
 use Rattle.lvs_model.specs.Reading.{read}
 use Rattle.lvs_flat.specs.declared.arrival.Arrival.{Arrival}
 use Rattle.lvs_flat.specs.declared.arrival.Lists.{Lists}

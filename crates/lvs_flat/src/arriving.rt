@@ -5,13 +5,12 @@ ghost use Rattle.std.specs.List.{AllByRecursion};
 ghost use Rattle.lvs_flat.specs.Bounds.{HasRoom, HasFewPackets};
 ghost use Rattle.lvs_flat.specs.TooLong.{AreApart};
 ghost use Rattle.lvs_flat.specs.Arrivals.{packet_of, IsRead, ServesFor, ServesAll};
+ghost use Rattle.lvs_types.specs.Transport.{transport_of};
 ghost use Rattle.lvs_model.specs.Reading.{read};
-ghost use Rattle.lvs_model.specs.Packets.{transport_of};
 ghost use Rattle.lvs_model.specs.Incoming.{incoming, incoming_of, incoming_packet};
 
 use crate::arrival::{Arrival, Lists, Rooms};
 use crate::incoming::do_arrive;
-use crate::packets::transport;
 use crate::tables::Tables;
 use crate::too_long::is_too_long;
 use lvs_headers::read_packet;
@@ -116,7 +115,7 @@ pub(crate) fn do_incoming(
         Ok(packet) => packet,
     };
     let head = packet.head();
-    let Some(proto) = transport(&head) else {
+    let Some(proto) = head.transport() else {
         return Ok(Reply::Pass);
     };
     let arrival = Arrival {

@@ -1,7 +1,7 @@
 //! Binding: an entry or a template finds the server at its address.
 ghost use Rattle.std.specs.Prelude.{◌≡◌, vec_len};
 ghost use Rattle.lvs_flat.specs.Tables.{state_of, IsRoomy};
-ghost use Rattle.lvs_model.specs.Binding.{binding_in, server_for_entry, server_for_template, proto_of_code, exact_service, template_service, bound_to, bind_entry, try_binding, bind_template, template_bound_to, template_tried};
+ghost use Rattle.lvs_model.specs.Binding.{binding_in, server_for_entry, server_for_template, exact_service, template_service, bound_to, bind_entry, try_binding, bind_template, template_bound_to, template_tried};
 
 use crate::dests::{find_serving, note_bound};
 use crate::entries::put;
@@ -32,17 +32,6 @@ pub(crate) fn find_for_entry(services: &[Service], dests: &[Dest], e: &Entry) ->
     find_in(service, e.daddr, e.dport, e.key.vport, dests)
 }
 
-/// The protocol of a number.
-pub(crate) fn proto_of(code: u8) -> Option<Proto>
-    ensures { result ≡ proto_of_code code }
-{
-    match code {
-        6 => Some(Proto::Tcp),
-        17 => Some(Proto::Udp),
-        _ => None,
-    }
-}
-
 fn find_exact(proto: Option<Proto>, key: &TemplateKey, services: &[Service]) -> Option<Service>
     ensures { result ≡ exact_service proto key.now services.now }
 {
@@ -65,7 +54,7 @@ fn find_template_service(key: &TemplateKey, services: &[Service]) -> Option<Serv
     if key.code == 0 {
         find_key(services, ServiceKey::Mark(key.vaddr.number))
     } else {
-        find_exact(proto_of(key.code), key, services)
+        find_exact(Proto::of_code(key.code), key, services)
     }
 }
 

@@ -9,7 +9,6 @@ ghost use Rattle.lvs_model.specs.Clock.{tick, entry_bucket, is_swept, is_named_i
 
 use crate::dests::{count_refs, relieved};
 use crate::entries::count_controls;
-use crate::persistence::code_of;
 use crate::tables::Tables;
 use lvs_model::bucket_of;
 use lvs_states::is_active;
@@ -28,8 +27,7 @@ fn sweeps(buckets: u32, now: u64, bucket: u32, e: &Entry) -> bool
     requires { 0 < buckets }
     ensures { result ≡ ((entry_bucket buckets e.now == bucket) && nat_le e.now.deadline now) }
 {
-    bucket_of(code_of(e.key.proto), e.key.caddr, e.key.cport, buckets) == bucket
-        && e.deadline <= now
+    bucket_of(e.key.proto.code(), e.key.caddr, e.key.cport, buckets) == bucket && e.deadline <= now
 }
 
 /// How many entries are in the bucket and due.

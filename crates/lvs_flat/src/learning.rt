@@ -17,21 +17,6 @@ use lvs_types::{
     TemplateId, TemplateKey,
 };
 
-/// The states by their numbers.
-const STATES: [TcpState; 11] = [
-    TcpState::None0,
-    TcpState::Established,
-    TcpState::SynSent,
-    TcpState::SynRecv,
-    TcpState::FinWait,
-    TcpState::TimeWait,
-    TcpState::Close,
-    TcpState::CloseWait,
-    TcpState::LastAck,
-    TcpState::Listen,
-    TcpState::SynAck,
-];
-
 fn timeout_in(r: &SyncRecord) -> u32
     ensures { result ≡ learnt_timeout r.now }
 {
@@ -47,19 +32,7 @@ fn proto_in(r: &SyncRecord) -> Proto
 fn method_in(r: &SyncRecord) -> Method
     ensures { result ≡ recorded_method r.now }
 {
-    if r.flags % 8 == 0 {
-        Method::Masq
-    } else if r.flags % 8 == 2 {
-        Method::Tunnel
-    } else {
-        Method::Direct
-    }
-}
-
-fn state_numbered(number: u16) -> Option<TcpState>
-    ensures { result ≡ recorded_state Proto.Tcp number }
-{
-    STATES.get(usize::from(number)).copied()
+    Method::of_code(r.flags % 8).unwrap_or(Method::Direct)
 }
 
 fn state_in(proto: Proto, number: u16) -> Option<TcpState>
@@ -67,7 +40,7 @@ fn state_in(proto: Proto, number: u16) -> Option<TcpState>
 {
     match proto {
         Proto::Udp => None,
-        Proto::Tcp => state_numbered(number),
+        Proto::Tcp => TcpState::of_number(number),
     }
 }
 

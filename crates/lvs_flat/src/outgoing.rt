@@ -2,9 +2,9 @@
 ghost use Rattle.std.specs.Prelude.{◌≡◌, ◌<◌, ◌≤◌, ◌^◌, [], vec_capacity, take, true, Ok, Some, IfOk, OnErr, length};
 ghost use Rattle.lvs_flat.specs.Tables.{state_of};
 ghost use Rattle.lvs_flat.specs.Bounds.{HasRoom};
+ghost use Rattle.lvs_types.specs.Transport.{transport_of};
 ghost use Rattle.lvs_model.specs.Reading.{read};
 ghost use Rattle.lvs_model.specs.Rewriting.{masq_out_bytes, has_ports};
-ghost use Rattle.lvs_model.specs.Packets.{transport_of};
 ghost use Rattle.lvs_model.specs.Lookups.{reply_entry};
 ghost use Rattle.lvs_model.specs.Binding.{put_entry};
 ghost use Rattle.lvs_model.specs.Forwarding.{in_state, state_after};
@@ -12,7 +12,6 @@ ghost use Rattle.lvs_model.specs.Outgoing.{answer_out, outgoing_of, outgoing};
 
 use crate::entries::{ReplySides, find_reply, put};
 use crate::forwarding::{fill, put_in_state, state_then};
-use crate::packets::transport;
 use crate::tables::Tables;
 use lvs_headers::read_packet;
 use lvs_rewrite::masq_out;
@@ -91,7 +90,7 @@ pub(crate) fn do_outgoing(
         Ok(packet) => packet,
     };
     let head = packet.head();
-    let Some(proto) = transport(&head) else {
+    let Some(proto) = head.transport() else {
         return Ok(Reply::Pass);
     };
     let e = find_reply(&tables.entries, &sides_of(proto, &head));

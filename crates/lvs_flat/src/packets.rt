@@ -1,20 +1,8 @@
 //! What the rules ask of a packet's headers.
 ghost use Rattle.std.specs.Prelude.{◌≡◌};
-ghost use Rattle.lvs_model.specs.Packets.{transport_of, key_of, is_syn_of, may_connect};
+ghost use Rattle.lvs_model.specs.Packets.{key_of, is_syn_of, may_connect};
 
-use crate::binding::proto_of;
 use lvs_types::{Head, Key, Proto, Settings};
-
-/// The protocol of a packet, none for a fragment and for others than TCP and UDP.
-pub(crate) fn transport(head: &Head) -> Option<Proto>
-    ensures { result ≡ transport_of head.now }
-{
-    if head.fragment {
-        None
-    } else {
-        proto_of(head.code)
-    }
-}
 
 /// The key of an incoming packet: its source is the client.
 pub(crate) fn key_of_packet(proto: Proto, head: &Head) -> Key

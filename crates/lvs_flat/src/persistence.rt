@@ -1,10 +1,9 @@
 //! Persistence: the template of a client and a service.
 ghost use Rattle.std.specs.Prelude.{◌≡◌};
-ghost use Rattle.lvs_model.specs.Same.{proto_code};
 ghost use Rattle.lvs_model.specs.Persistence.{masked, template_key_in, template_key, takes_templates, usable, usable_server};
 
 use crate::dests::find_id;
-use lvs_types::{Addr, Dest, DestId, Proto, Service, ServiceKey, Settings, TemplateKey};
+use lvs_types::{Addr, Dest, DestId, Service, ServiceKey, Settings, TemplateKey};
 
 /// The leading bits of an address, the others cleared.
 fn mask(bits: u8, addr: Addr) -> Addr
@@ -16,22 +15,12 @@ fn mask(bits: u8, addr: Addr) -> Addr
     }
 }
 
-/// The number of a protocol.
-pub(crate) fn code_of(proto: Proto) -> u8
-    ensures { result ≡ proto_code proto }
-{
-    match proto {
-        Proto::Tcp => 6,
-        Proto::Udp => 17,
-    }
-}
-
 fn key_in(key: ServiceKey, client: Addr) -> TemplateKey
     ensures { result ≡ template_key_in key client }
 {
     match key {
         ServiceKey::Net { proto, addr, port } => TemplateKey {
-            code: code_of(proto),
+            code: proto.code(),
             client,
             vaddr: addr,
             vport: port,

@@ -6,7 +6,7 @@ ghost use Rattle.lvs_types.specs.declared.service.Service.{Service};
 ghost use Rattle.lvs_model.specs.Lists.{update_first, without};
 ghost use Rattle.lvs_model.specs.Lookups.{has_dest_id, is_server_at, has_service_key, servers_of};
 ghost use Rattle.lvs_model.specs.Counts.{total};
-ghost use Rattle.lvs_model.specs.Edits.{has_bad_thresholds, is_revivable, new_dest, revived, respecified, place_server, add_server, edit_server, server_before, step_back, remove_dest, remove_server_at, remove_server};
+ghost use Rattle.lvs_model.specs.Edits.{is_revivable, new_dest, revived, respecified, place_server, add_server, edit_server, server_before, step_back, remove_dest, remove_server_at, remove_server};
 
 use crate::dests::{find_at, is_live_at, is_there, reaches};
 use crate::entries::count_total;
@@ -17,12 +17,6 @@ use lvs_types::{
     Addr, Dest, DestId, DestSpec, EditRefused, Entry, NoMemory, Reply, Service, ServiceKey,
 };
 use std::alloc::Global;
-
-fn crosses(spec: &DestSpec) -> bool
-    ensures { result ≡ has_bad_thresholds spec.now }
-{
-    spec.upper < spec.lower
-}
 
 fn is_kept_for(d: &Dest, key: ServiceKey, spec: &DestSpec) -> bool
     ensures { result ≡ is_revivable key spec.now d.now }
@@ -126,7 +120,7 @@ pub(crate) fn add_server(
     if is_there(&tables.dests, key, spec.addr, spec.port) {
         return Ok(Reply::Refused(EditRefused::Exists));
     }
-    if crosses(spec) {
+    if spec.has_bad_thresholds() {
         return Ok(Reply::Refused(EditRefused::Thresholds));
     }
     let kept = find_revivable(&tables.dests, key, spec);
@@ -158,7 +152,7 @@ pub(crate) fn edit_server(tables: &mut Tables, key: ServiceKey, spec: &DestSpec)
     if !is_there(&tables.dests, key, spec.addr, spec.port) {
         return Reply::Refused(EditRefused::NoDest);
     }
-    if crosses(spec) {
+    if spec.has_bad_thresholds() {
         return Reply::Refused(EditRefused::Thresholds);
     }
     respecify_at(&mut tables.dests, &tables.entries, key, spec);

@@ -17,12 +17,13 @@ use Rattle.lvs_types.specs.declared.sync.SyncItem.TheVariants.{V4, V6}
 use Rattle.lvs_types.specs.declared.sync.SyncRecord.{SyncRecord}
 use Rattle.lvs_types.specs.declared.sync.Learnt.{Learnt}
 use Rattle.lvs_types.specs.declared.sync.Learnt.TheVariants as learnt
+use Rattle.lvs_types.specs.Thresholds.{has_bad_thresholds}
 use Rattle.lvs_model.specs.State.{State}
 use Rattle.lvs_model.specs.Lookups.{entry_at, has_entry_id, template_at, is_server_at}
 use Rattle.lvs_model.specs.Binding.{put_entry}
 use Rattle.lvs_model.specs.Incoming.{end_entry}
 use Rattle.lvs_model.specs.Clock.{is_swept, entry_bucket, sweep}
-use Rattle.lvs_model.specs.Edits.{edit, add_service_by, edit_service_by, remove_service_by, add_server_by, edit_server_by, remove_server_by, remove_server_at, place_server, start_master, start_backup, stop_master, stop_backup, is_service, is_server, is_revivable, has_bad_thresholds}
+use Rattle.lvs_model.specs.Edits.{edit, add_service_by, edit_service_by, remove_service_by, add_server_by, edit_server_by, remove_server_by, remove_server_at, place_server, start_master, start_backup, stop_master, stop_backup, is_service, is_server, is_revivable}
 use Rattle.lvs_model.specs.SyncRules.{accept, is_template_record}
 use Rattle.lvs_model.specs.Learning.{recorded_key, recorded_entry, add_entry, relearnt, goes_to_recorded, relearn, learn_connection, recorded_template_key, template_goes_to_recorded, relearn_template, learn_template, learn_record, learn_by}
 use Rattle.lvs_well_formed.proofs.Parts.{Parts}

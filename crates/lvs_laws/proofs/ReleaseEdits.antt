@@ -10,11 +10,12 @@ use Rattle.lvs_types.specs.declared.dest.Dest.{Dest}
 use Rattle.lvs_types.specs.declared.command.Command.{Command}
 use Rattle.lvs_types.specs.declared.command.Command.TheVariants as command
 use Rattle.lvs_types.specs.declared.item.Item.TheVariants as item
+use Rattle.lvs_types.specs.Thresholds.{has_bad_thresholds}
 use Rattle.lvs_model.specs.State.{State}
 use Rattle.lvs_model.specs.Same.{addr_eq, service_key_eq}
 use Rattle.lvs_model.specs.Lists.{update_first}
 use Rattle.lvs_model.specs.Lookups.{dest_at, has_dest_id, is_server_of, is_server_at, stands_at}
-use Rattle.lvs_model.specs.Edits.{edit, is_service, is_server, has_bad_thresholds, add_service_by, edit_service_by, remove_service_by, clear, add_server_by, place_server, is_revivable, new_dest, revived, edit_server_by, respecified, remove_server_by, remove_server_at, start_master, start_backup, stop_master, stop_backup}
+use Rattle.lvs_model.specs.Edits.{edit, is_service, is_server, add_service_by, edit_service_by, remove_service_by, clear, add_server_by, place_server, is_revivable, new_dest, revived, edit_server_by, respecified, remove_server_by, remove_server_at, start_master, start_backup, stop_master, stop_backup}
 use Rattle.lvs_model.specs.WellFormed.{IsWellFormed}
 use Rattle.lvs_well_formed.proofs.Lists.{all_find, find_passes}
 use Rattle.lvs_well_formed.proofs.Keys.{addr_true, service_key_true, dest_id_true}

@@ -13,12 +13,13 @@ use Rattle.lvs_types.specs.declared.command.Command.{Command}
 use Rattle.lvs_types.specs.declared.command.Command.TheVariants as command
 use Rattle.lvs_types.specs.declared.item.Item.{Item}
 use Rattle.lvs_types.specs.declared.item.Item.TheVariants as item
+use Rattle.lvs_types.specs.Thresholds.{has_bad_thresholds}
 use Rattle.lvs_model.specs.State.{State, initial}
 use Rattle.lvs_model.specs.Same.{service_key_eq, dest_eq}
 use Rattle.lvs_model.specs.Lists.{without}
 use Rattle.lvs_model.specs.Reading.{read}
 use Rattle.lvs_model.specs.Lookups.{has_dest_id, has_service_key, is_server_of, is_server_at, stands_at, servers_of}
-use Rattle.lvs_model.specs.Edits.{edit, fresh, fresh_cursor, is_service, is_server, has_bad_thresholds, add_service_by, edit_service_by, remove_service_by, remove_dests, leaving, clear, add_server_by, place_server, is_revivable, new_dest, revived, edit_server_by, respecified, server_before, step_back, remove_server_by, remove_server_at, start_master, start_backup, stop_master, stop_backup}
+use Rattle.lvs_model.specs.Edits.{edit, fresh, fresh_cursor, is_service, is_server, add_service_by, edit_service_by, remove_service_by, remove_dests, leaving, clear, add_server_by, place_server, is_revivable, new_dest, revived, edit_server_by, respecified, server_before, step_back, remove_server_by, remove_server_at, start_master, start_backup, stop_master, stop_backup}
 use Rattle.lvs_model.specs.Clock.{is_swept, after_ends, is_named_in, is_released, reaped_templates, sweep, reap}
 use Rattle.lvs_model.specs.Step.{step, run}
 use Rattle.lvs_well_formed.proofs.Lists.{all_weaker, all_map, all_push, all_filter, all_filter_map, all_update, find_passes}

@@ -20,12 +20,13 @@ use Rattle.lvs_types.specs.declared.sync.Learnt.TheVariants as learnt
 use Rattle.lvs_types.specs.declared.reply.Reply.{Reply}
 use Rattle.lvs_types.specs.declared.reply.Reply.TheVariants as reply
 use Rattle.lvs_types.specs.declared.reply.DropCause.TheVariants as drops
+use Rattle.lvs_types.specs.Transport.{transport_of}
 use Rattle.lvs_model.specs.State.{State}
 use Rattle.lvs_model.specs.Lists.{without}
 use Rattle.lvs_model.specs.Lookups.{entry_at, template_at, reply_entry, has_entry_id, find_service, servers_of, has_service_key, has_dest_id}
 use Rattle.lvs_model.specs.Counts.{candidates}
 use Rattle.lvs_model.specs.Pick.{pick}
-use Rattle.lvs_model.specs.Packets.{Packet, transport_of, key_of, may_connect}
+use Rattle.lvs_model.specs.Packets.{Packet, key_of, may_connect}
 use Rattle.lvs_model.specs.Binding.{put_entry, put_template, count_bound, count_ended, bound_to, bind_entry, try_binding, server_for_entry, template_tried}
 use Rattle.lvs_model.specs.Persistence.{template_key, usable_server}
 use Rattle.lvs_model.specs.Scheduling.{new_entry, enter, is_one_packet, connect_to, with_cursor, new_template, replace_template, take_pick, pick_at, picked, schedule, renewed, use_template, persist_by, serve_packet, admit, connect}

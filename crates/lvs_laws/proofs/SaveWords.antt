@@ -7,6 +7,7 @@ use Rattle.lvs_types.specs.declared.service.ServiceKey.{ServiceKey}
 use Rattle.lvs_types.specs.declared.service.ServiceKey.TheVariants.{Mark}
 use Rattle.lvs_types.specs.declared.service.Proto.TheVariants.{Tcp, Udp}
 use Rattle.lvs_types.specs.declared.service.Scheduler.{Scheduler}
+use Rattle.lvs_types.specs.Schedulers.{scheduler_named}
 use Rattle.lvs_model.specs.declared.admin.CommandName.{CommandName}
 use Rattle.lvs_model.specs.declared.admin.CommandName.TheVariants.{AddService, EditService, DeleteService, ClearTables, AddServer, EditServer, DeleteServer, ListTables, SaveTables, SetTimeouts, StartDaemon, StopDaemon}
 use Rattle.lvs_model.specs.declared.admin.OptionName.{OptionName}
@@ -20,7 +21,7 @@ use Rattle.lvs_model.specs.declared.admin.WordsRead.{WordsRead}
 use Rattle.lvs_model.specs.declared.admin.BadWord.{BadWord}
 use Rattle.lvs_model.specs.Refusals.{◌>>=◌, needed}
 use Rattle.lvs_model.specs.Decimals.{is_number, number_between, endpoint_of, mask_of}
-use Rattle.lvs_model.specs.AdminTables.{command_of, option_of, allows, scheduler_of}
+use Rattle.lvs_model.specs.AdminTables.{command_of, option_of, allows}
 use Rattle.lvs_model.specs.AdminWords.{is_dashed, is_given, is_second, with_option, take_named, take_option, service_at, role_of, with_service, take_value, take_awaited, take_word, take_words, awaited_after, begun, take_all}
 use Rattle.lvs_listing.specs.Savable.{IsSayableKey}
 use Rattle.lvs_laws.proofs.SaveNumbers.{IfGiven, IsSayableEndpoint, between, endpoint_small, mask_small}
@@ -128,7 +129,7 @@ value_keeps at word FwmarkService r t is e w =
     value_by at cause.BadNumber (number_between 1 4294967295 word) (λ (x : ℕ). with_service at (Mark x) r) t e
     (λ x found. let small = between 1 4294967295 word x found in service_given at (Mark x) r (small.0, omega (arith, small.1)) w)
 value_keeps at word Scheduling r t is e w =
-    value_by at cause.BadScheduler (scheduler_of word) (λ (x : Scheduler). record r { scheduler = Some x; awaited = AnOption }) t e (λ x found. awaiting r AnOption refl w)
+    value_by at cause.BadScheduler (scheduler_named word) (λ (x : Scheduler). record r { scheduler = Some x; awaited = AnOption }) t e (λ x found. awaiting r AnOption refl w)
 value_keeps at word Persistent r t is e w =
     value_by at cause.BadNumber (number_between 1 2678400 word) (λ (x : ℕ). record r { persist = Some x; awaited = AnOption }) t e
     (λ x found. record { given = w.given; lasts = between 1 2678400 word x found; bits = w.bits; masked = λ none. ((w.masked none).0, refl); stands = w.stands; weighs = w.weighs; bounded = w.bounded })

@@ -20,11 +20,12 @@ use Rattle.lvs_types.specs.declared.sync.SyncItem.TheVariants.{V4}
 use Rattle.lvs_types.specs.declared.sync.SyncRecord.{SyncRecord}
 use Rattle.lvs_types.specs.declared.sync.Learnt.{Learnt}
 use Rattle.lvs_types.specs.declared.sync.Learnt.TheVariants as learnt
+use Rattle.lvs_types.specs.Transport.{transport_of}
 use Rattle.lvs_model.specs.State.{State}
 use Rattle.lvs_model.specs.Step.{step, run}
 use Rattle.lvs_model.specs.Rewriting.{bytes_for, is_too_long}
 use Rattle.lvs_model.specs.Lookups.{entry_at, has_entry_id}
-use Rattle.lvs_model.specs.Packets.{transport_of, key_of}
+use Rattle.lvs_model.specs.Packets.{key_of}
 use Rattle.lvs_model.specs.Binding.{put_entry, bind_entry, try_binding, server_for_entry}
 use Rattle.lvs_model.specs.Incoming.{end_entry, continue, arrive, take_back, incoming_of, incoming_read}
 use Rattle.lvs_model.specs.SyncRules.{accept, is_template_record}

@@ -9,11 +9,12 @@ use Rattle.lvs_types.specs.declared.item.Item.TheVariants as item
 use Rattle.lvs_types.specs.declared.sync.SyncItem.TheVariants.{V4}
 use Rattle.lvs_types.specs.declared.sync.SyncRecord.{SyncRecord}
 use Rattle.lvs_types.specs.declared.sync.Learnt.TheVariants as learnt
+use Rattle.lvs_types.specs.Transport.{transport_of}
 use Rattle.lvs_model.specs.State.{State}
 use Rattle.lvs_model.specs.Step.{run}
 use Rattle.lvs_model.specs.Reading.{read}
 use Rattle.lvs_model.specs.Lookups.{has_entry_id}
-use Rattle.lvs_model.specs.Packets.{Packet, transport_of, key_of}
+use Rattle.lvs_model.specs.Packets.{Packet, key_of}
 use Rattle.lvs_model.specs.Binding.{try_binding}
 use Rattle.lvs_model.specs.Incoming.{is_reused, is_trashed, server_named}
 use Rattle.lvs_model.specs.Clock.{entry_bucket}

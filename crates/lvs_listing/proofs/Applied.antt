@@ -16,10 +16,11 @@ use Rattle.lvs_types.specs.declared.dest.DestRow.{DestRow}
 use Rattle.lvs_types.specs.declared.snapshot.Snapshot.{Snapshot}
 use Rattle.lvs_types.specs.declared.command.Command.{Command}
 use Rattle.lvs_types.specs.declared.command.Command.TheVariants as command
+use Rattle.lvs_types.specs.Thresholds.{has_bad_thresholds}
 use Rattle.lvs_model.specs.State.{State}
 use Rattle.lvs_model.specs.Same.{service_key_eq}
 use Rattle.lvs_model.specs.Lookups.{has_service_key, is_server_at, stands_at}
-use Rattle.lvs_model.specs.Edits.{fresh, add_service_by, has_bad_thresholds, is_revivable, new_dest, place_server, add_server_by, is_server}
+use Rattle.lvs_model.specs.Edits.{fresh, add_service_by, is_revivable, new_dest, place_server, add_server_by, is_server}
 use Rattle.lvs_model.specs.Listings.{rows_of}
 use Rattle.lvs_listing.specs.Savable.{stand_together, AreSavableServers, AreSavableServices, IsSavable, said, said_rows, said_services, after, HasTables}
 use Rattle.lvs_listing.proofs.Numerals.{first_true, second_true, both_true}

@@ -16,6 +16,8 @@ use Rattle.lvs_types.specs.declared.service.Service.{Service}
 use Rattle.lvs_types.specs.declared.command.Line.{Line}
 use Rattle.lvs_types.specs.declared.command.Line.TheVariants.{Edit}
 use Rattle.lvs_types.specs.declared.command.Command.TheVariants as command
+use Rattle.lvs_types.specs.Schedulers.{scheduler_name}
+use Rattle.lvs_types.proofs.LedBack.{scheduler_named-scheduler_name}
 use Rattle.lvs_model.specs.declared.admin.CommandName.TheVariants.{AddService}
 use Rattle.lvs_model.specs.declared.admin.OptionName.TheVariants as option
 use Rattle.lvs_model.specs.declared.admin.Awaited.TheVariants.{AnOption, ValueOf}
@@ -25,14 +27,13 @@ use Rattle.lvs_model.specs.Refusals.{◌>>=◌, refused, needed, forbidden}
 use Rattle.lvs_model.specs.Decimals.{mask_of}
 use Rattle.lvs_model.specs.Report.{addr_text}
 use Rattle.lvs_model.specs.Edits.{fresh, fresh_cursor}
-use Rattle.lvs_model.specs.AdminTables.{scheduler_name}
 use Rattle.lvs_model.specs.AdminWords.{is_tcp, take_option, take_value, take_words, take_all}
 use Rattle.lvs_model.specs.AdminLines.{is_portless, settled, line_read, line_of_split}
 use Rattle.lvs_model.specs.Listings.{endpoint_text, mask_addr, mask_text, persist_text, flag_text, options_text, key_words, service_words}
 use Rattle.lvs_listing.specs.Savable.{IsSayableKey, IsSayablePersistence, IsSayableService}
 use Rattle.lvs_listing.proofs.Numerals.{first_true, second_true, is_number-decimal, number_between-decimal}
 use Rattle.lvs_listing.proofs.Wording.{IsWord, AreWords, line_with, IsCommandText, number_is_word, addr_is_word}
-use Rattle.lvs_listing.proofs.Taking.{taken, waits, key_option, key_value, key_option_is_word, key_value_is_word, of_key, service_key_taken, scheduler_is_word, scheduler_of-scheduler_name}
+use Rattle.lvs_listing.proofs.Taking.{taken, waits, key_option, key_value, key_option_is_word, key_value_is_word, of_key, service_key_taken, scheduler_is_word}
 
 -- MASKS
 
@@ -136,7 +137,7 @@ scheduler_taken : (key : ServiceKey) (scheduler : Scheduler) (rest : List (List 
 scheduler_taken key scheduler rest =
     taken 3 (codes "-s") (scheduler_name scheduler ∷ rest) (of_key AddService key) (waits option.Scheduling (of_key AddService key)) refl
     ∙ taken 4 (scheduler_name scheduler) rest (waits option.Scheduling (of_key AddService key)) (with_scheduler key scheduler)
-    (ap (λ (given : Option Scheduler). needed 4 cause.BadScheduler given >>= (λ (s : Scheduler). Ok (record (of_key AddService key) { scheduler = Some s; awaited = AnOption }))) (scheduler_of-scheduler_name scheduler))
+    (ap (λ (given : Option Scheduler). needed 4 cause.BadScheduler given >>= (λ (s : Scheduler). Ok (record (of_key AddService key) { scheduler = Some s; awaited = AnOption }))) (scheduler_named-scheduler_name scheduler))
 
 abbrev with_persist : ℕ → WordsRead → WordsRead
 with_persist seconds r = record r { persist = Some seconds }

@@ -9,6 +9,7 @@ use Rattle.lvs_types.specs.declared.service.ServiceKey.TheVariants.{Net, Mark}
 use Rattle.lvs_types.specs.declared.service.Proto.TheVariants.{Tcp, Udp}
 use Rattle.lvs_types.specs.declared.service.Scheduler.{Scheduler}
 use Rattle.lvs_types.specs.declared.service.Scheduler.TheVariants.{Rr, Wrr, Lc, Wlc, Sed, Nq, Sh, Dh, Fo, Ovf, Mh}
+use Rattle.lvs_types.specs.Schedulers.{scheduler_name}
 use Rattle.lvs_model.specs.declared.admin.CommandName.{CommandName}
 use Rattle.lvs_model.specs.declared.admin.CommandName.TheVariants.{AddService, AddServer}
 use Rattle.lvs_model.specs.declared.admin.OptionName.{OptionName}
@@ -18,7 +19,6 @@ use Rattle.lvs_model.specs.declared.admin.Endpoint.{Endpoint}
 use Rattle.lvs_model.specs.declared.admin.WordsRead.{WordsRead}
 use Rattle.lvs_model.specs.declared.admin.BadWord.{BadWord}
 use Rattle.lvs_model.specs.Refusals.{◌>>=◌, needed}
-use Rattle.lvs_model.specs.AdminTables.{scheduler_name, scheduler_of}
 use Rattle.lvs_model.specs.AdminWords.{service_at, with_service, take_value, take_word, take_words, begun}
 use Rattle.lvs_model.specs.Listings.{endpoint_text}
 use Rattle.lvs_listing.specs.Savable.{IsSayableKey}
@@ -105,16 +105,3 @@ scheduler_is_word Dh = record { full = refl; graphic = refl; whole = refl }
 scheduler_is_word Fo = record { full = refl; graphic = refl; whole = refl }
 scheduler_is_word Ovf = record { full = refl; graphic = refl; whole = refl }
 scheduler_is_word Mh = record { full = refl; graphic = refl; whole = refl }
-
-pub scheduler_of-scheduler_name : (s : Scheduler) → scheduler_of (scheduler_name s) ≡ Some s
-scheduler_of-scheduler_name Rr = refl
-scheduler_of-scheduler_name Wrr = refl
-scheduler_of-scheduler_name Lc = refl
-scheduler_of-scheduler_name Wlc = refl
-scheduler_of-scheduler_name Sed = refl
-scheduler_of-scheduler_name Nq = refl
-scheduler_of-scheduler_name Sh = refl
-scheduler_of-scheduler_name Dh = refl
-scheduler_of-scheduler_name Fo = refl
-scheduler_of-scheduler_name Ovf = refl
-scheduler_of-scheduler_name Mh = refl

@@ -2,28 +2,9 @@
 ghost use Rattle.std.specs.Prelude.{◌≡◌};
 ghost use Rattle.lvs_model.specs.Same.{service_key_eq};
 ghost use Rattle.lvs_model.specs.Lookups.{is_server_of};
-ghost use Rattle.lvs_model.specs.AdminTables.{scheduler_name};
 ghost use Rattle.lvs_model.specs.Listings.{method_title, method_word, proto_title, state_title, code_title};
 
-use lvs_types::{Dest, Method, Proto, Scheduler, ServiceKey, TcpState};
-
-pub(crate) fn scheduler_name(scheduler: Scheduler) -> &'static [u8]
-    ensures { result.now ≡ scheduler_name scheduler }
-{
-    match scheduler {
-        Scheduler::Rr => b"rr",
-        Scheduler::Wrr => b"wrr",
-        Scheduler::Lc => b"lc",
-        Scheduler::Wlc => b"wlc",
-        Scheduler::Sed => b"sed",
-        Scheduler::Nq => b"nq",
-        Scheduler::Sh => b"sh",
-        Scheduler::Dh => b"dh",
-        Scheduler::Fo => b"fo",
-        Scheduler::Ovf => b"ovf",
-        Scheduler::Mh => b"mh",
-    }
-}
+use lvs_types::{Dest, Method, Proto, ServiceKey, TcpState};
 
 /// As `ipvsadm -L` names it.
 pub(crate) fn method_title(method: Method) -> &'static [u8]

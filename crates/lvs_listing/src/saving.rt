@@ -3,7 +3,7 @@ ghost use Rattle.std.specs.Prelude.{◌≡◌, ◌++◌, drop, OnOk, IfOk};
 ghost use Rattle.lvs_model.specs.Listings.{key_words, service_words, server_words, rows_of, saved_servers, saved_services, save_text};
 
 use crate::groups::Groups;
-use crate::names::{is_server_of, method_word, scheduler_name};
+use crate::names::{is_server_of, method_word};
 use crate::pieces::{put, put_endpoint, put_number, put_options, put_threshold};
 use lvs_types::{Bytes, DestRow, DestSpec, NoMemory, Proto, Service, ServiceKey, Snapshot};
 use std::alloc::Global;
@@ -42,7 +42,7 @@ fn put_service(out: &mut Vec<u8>, service: &Service) -> Result<(), NoMemory>
     put(out, b"-A ")?;
     put_key(out, service.key)?;
     put(out, b" -s ")?;
-    put(out, scheduler_name(service.scheduler))?;
+    put(out, service.scheduler.name())?;
     put_options(out, b" -p ", b" -M ", b" -o", service)?;
     put(out, b"\n")
 }

@@ -3,7 +3,7 @@ ghost use Rattle.std.specs.Prelude.{◌≡◌, ◌++◌, drop, OnOk, IfOk};
 ghost use Rattle.lvs_model.specs.Listings.{key_text, service_line, server_line, server_lines, rows_of, service_lines, list_text};
 
 use crate::groups::Groups;
-use crate::names::{is_server_of, method_title, scheduler_name};
+use crate::names::{is_server_of, method_title};
 use crate::pieces::{put, put_endpoint, put_number, put_options};
 use lvs_types::{Bytes, DestRow, NoMemory, Proto, Service, ServiceKey, Snapshot};
 use std::alloc::Global;
@@ -41,7 +41,7 @@ fn put_service(out: &mut Vec<u8>, service: &Service) -> Result<(), NoMemory>
 {
     put_key(out, service.key)?;
     put(out, b" ")?;
-    put(out, scheduler_name(service.scheduler))?;
+    put(out, service.scheduler.name())?;
     put_options(out, b" persistent ", b" mask ", b" ops", service)?;
     put(out, b"\n")
 }

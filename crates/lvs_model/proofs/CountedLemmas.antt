@@ -26,7 +26,7 @@ use Rattle.lvs_model.specs.Messages.{HasOldFlags}
 use Rattle.lvs_model.specs.Binding.{put_entry, bind_entry, try_binding, server_for_entry, put_template, template_tried}
 use Rattle.lvs_model.specs.Incoming.{end_entry}
 use Rattle.lvs_model.specs.Forwarding.{after_packet, records_due, template_records, records_of_template, forward_known}
-use Rattle.lvs_model.specs.SyncRules.{due_for_sync, of_entry, method_code, accept, is_template_record}
+use Rattle.lvs_model.specs.SyncRules.{due_for_sync, of_entry, accept, is_template_record}
 use Rattle.lvs_model.specs.Timeouts.{is_active}
 use Rattle.lvs_types.specs.declared.service.Method.{Method}
 use Rattle.lvs_types.specs.declared.service.Method.TheVariants.{Masq, Tunnel, Direct}
@@ -39,16 +39,19 @@ use Rattle.lvs_types.specs.declared.sync.SyncItem.{SyncItem}
 use Rattle.lvs_types.specs.declared.sync.SyncItem.TheVariants.{V4, V6}
 use Rattle.lvs_types.specs.declared.sync.Learnt.{Learnt}
 use Rattle.lvs_types.specs.declared.sync.Learnt.TheVariants as learnt
+use Rattle.lvs_types.specs.Methods.{method_code}
+use Rattle.lvs_types.specs.Transport.{transport_of}
+use Rattle.lvs_types.specs.Thresholds.{has_bad_thresholds}
 use Rattle.lvs_model.specs.Reading.{read}
 use Rattle.lvs_model.specs.Scheduling.{enter, connect_to, is_one_packet, state_before, new_entry, take_pick, new_template, replace_template, with_cursor, pick_at, picked, schedule, use_template, try_template, persist_by, serve_packet, admit, connect, renewed}
 use Rattle.lvs_model.specs.Persistence.{template_key, usable_server}
 use Rattle.lvs_model.specs.Incoming.{continue, arrive, take_back, incoming_packet, incoming_of, incoming_read, server_named, is_reused, is_trashed}
 use Rattle.lvs_model.specs.Outgoing.{answer_out, outgoing_of, outgoing_read}
-use Rattle.lvs_model.specs.Packets.{transport_of, key_of, may_connect}
+use Rattle.lvs_model.specs.Packets.{key_of, may_connect}
 use Rattle.lvs_model.specs.Lookups.{entry_at, template_at, template_of_id, servers_of, find_service, reply_entry, has_key, is_reply_of, is_server_at}
 use Rattle.lvs_model.specs.Counts.{candidates}
 use Rattle.lvs_model.specs.Pick.{pick}
-use Rattle.lvs_model.specs.Edits.{edit, add_service_by, edit_service_by, remove_service_by, add_server_by, place_server, edit_server_by, remove_server_by, remove_server_at, start_master, start_backup, stop_master, stop_backup, is_service, is_server, has_bad_thresholds, is_revivable}
+use Rattle.lvs_model.specs.Edits.{edit, add_service_by, edit_service_by, remove_service_by, add_server_by, place_server, edit_server_by, remove_server_by, remove_server_at, start_master, start_backup, stop_master, stop_backup, is_service, is_server, is_revivable}
 use Rattle.lvs_model.specs.Learning.{learn_by, learn_item, learn_record, learn_connection, learn_template, relearn, relearn_template, add_entry, add_template, recorded_entry, recorded_template, relearnt, goes_to_recorded, recorded_key, recorded_template_key, template_goes_to_recorded}
 use Rattle.lvs_model.specs.Step.{step, IsInRange}
 use Rattle.lvs_model.specs.Packets.{Packet}

@@ -1,8 +1,6 @@
--- The commands, options and schedulers of ipvsadm(8), as tables (this project's profile).
+-- The commands and options of ipvsadm(8), as tables (this project's profile).
 use Rattle.std.specs.Prelude.{ℕ, Bool, ◌||◌, ◌==◌, List, [], ◌∷◌, Option, find, codes, bytes_eq}
 use Rattle.std.specs.List.{list_any}
-use Rattle.lvs_types.specs.declared.service.Scheduler.{Scheduler}
-use Rattle.lvs_types.specs.declared.service.Scheduler.TheVariants.{Rr, Wrr, Lc, Wlc, Sed, Nq, Sh, Dh, Fo, Ovf, Mh}
 use Rattle.lvs_model.specs.declared.admin.CommandName.{CommandName}
 use Rattle.lvs_model.specs.declared.admin.CommandName.TheVariants.{AddService, EditService, DeleteService, ClearTables, AddServer, EditServer, DeleteServer, ListTables, SaveTables, SetTimeouts, StartDaemon, StopDaemon}
 use Rattle.lvs_model.specs.declared.admin.OptionName.{OptionName}
@@ -103,25 +101,3 @@ option_number McastInterface = 17
 -- whether an option may stand with a command
 abbrev pub allows : CommandName → OptionName → Bool
 allows command option = list_any (λ other. option_number other == option_number option) (allowed command)
-
--- the names of the schedulers
-abbrev pub scheduler_name : Scheduler → List ℕ
-scheduler_name Rr = codes "rr"
-scheduler_name Wrr = codes "wrr"
-scheduler_name Lc = codes "lc"
-scheduler_name Wlc = codes "wlc"
-scheduler_name Sed = codes "sed"
-scheduler_name Nq = codes "nq"
-scheduler_name Sh = codes "sh"
-scheduler_name Dh = codes "dh"
-scheduler_name Fo = codes "fo"
-scheduler_name Ovf = codes "ovf"
-scheduler_name Mh = codes "mh"
-
--- all schedulers
-abbrev pub schedulers : List Scheduler
-schedulers = Rr ∷ Wrr ∷ Lc ∷ Wlc ∷ Sed ∷ Nq ∷ Sh ∷ Dh ∷ Fo ∷ Ovf ∷ Mh ∷ []
-
--- the scheduler that a word names
-abbrev pub scheduler_of : List ℕ → Option Scheduler
-scheduler_of word = find (λ s. bytes_eq word (scheduler_name s)) schedulers

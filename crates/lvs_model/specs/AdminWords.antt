@@ -9,6 +9,7 @@ use Rattle.lvs_types.specs.declared.service.Proto.{Proto}
 use Rattle.lvs_types.specs.declared.service.Proto.TheVariants.{Tcp, Udp}
 use Rattle.lvs_types.specs.declared.service.Method.{Method}
 use Rattle.lvs_types.specs.declared.service.Method.TheVariants.{Masq, Tunnel, Direct}
+use Rattle.lvs_types.specs.Schedulers.{scheduler_named}
 use Rattle.lvs_model.specs.declared.admin.CommandName.{CommandName}
 use Rattle.lvs_model.specs.declared.admin.CommandName.TheVariants.{SetTimeouts, StartDaemon, StopDaemon}
 use Rattle.lvs_model.specs.declared.admin.OptionName.{OptionName}
@@ -23,7 +24,7 @@ use Rattle.lvs_model.specs.declared.admin.WordsRead.{WordsRead}
 use Rattle.lvs_model.specs.declared.admin.BadWord.{BadWord}
 use Rattle.lvs_model.specs.Decimals.{is_number, number_between, cut_at, endpoint_of, mask_of}
 use Rattle.lvs_model.specs.Refusals.{◌>>=◌, refused, needed}
-use Rattle.lvs_model.specs.AdminTables.{command_of, option_of, allows, scheduler_of}
+use Rattle.lvs_model.specs.AdminTables.{command_of, option_of, allows}
 
 -- SPLITTING. A word of one dash (45) and two or more letters is a word of a dash and a letter for each of them; a word of two dashes with an equals sign (61)
 -- is the word before it and the word behind it; every other word stays. This is one pass: what comes out isn't split again.
@@ -189,7 +190,7 @@ take_value at word FwmarkService r = do
   mark ← needed at cause.BadNumber (number_between 1 4294967295 word)
   Ok (with_service at (Mark mark) r)
 take_value at word Scheduling r = do
-  scheduler ← needed at cause.BadScheduler (scheduler_of word)
+  scheduler ← needed at cause.BadScheduler (scheduler_named word)
   Ok (record r { scheduler = Some scheduler; awaited = AnOption })
 take_value at word Persistent r = do
   seconds ← needed at cause.BadNumber (number_between 1 2678400 word)

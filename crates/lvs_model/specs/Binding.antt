@@ -5,12 +5,12 @@ use Rattle.lvs_types.specs.declared.addr.Addr.{Addr}
 use Rattle.lvs_types.specs.declared.addr.DestId.{DestId}
 use Rattle.lvs_types.specs.declared.service.ServiceKey.TheVariants.{Net, Mark}
 use Rattle.lvs_types.specs.declared.service.Proto.{Proto}
-use Rattle.lvs_types.specs.declared.service.Proto.TheVariants.{Tcp, Udp}
 use Rattle.lvs_types.specs.declared.service.Service.{Service}
 use Rattle.lvs_types.specs.declared.dest.Dest.{Dest}
 use Rattle.lvs_types.specs.declared.entry.Entry.{Entry}
 use Rattle.lvs_types.specs.declared.template.TemplateKey.{TemplateKey}
 use Rattle.lvs_types.specs.declared.template.Template.{Template}
+use Rattle.lvs_types.specs.Protocols.{proto_of_code}
 use Rattle.lvs_model.specs.State.{State}
 use Rattle.lvs_model.specs.Same.{addr_eq}
 use Rattle.lvs_model.specs.Lists.{update_first}
@@ -31,10 +31,6 @@ binding_in (Some service) daddr dport vport dests = find (λ d. is_server_of ser
 abbrev pub server_for_entry : List Service → List Dest → Entry → Option Dest
 server_for_entry services dests e =
     binding_in (find_service e.key.proto e.key.vaddr e.key.vport e.mark services) e.daddr e.dport e.key.vport dests
-
--- the protocol of a number, 6 or 17
-abbrev pub proto_of_code : ℕ → Option Proto
-proto_of_code code = if code == 6 then Some Tcp else (if code == 17 then Some Udp else None)
 
 abbrev pub exact_service : Option Proto → TemplateKey → List Service → Option Service
 exact_service None key services = None

@@ -6,8 +6,9 @@ use Rattle.lvs_types.specs.declared.entry.Entry.{Entry}
 use Rattle.lvs_types.specs.declared.template.Template.{Template}
 use Rattle.lvs_types.specs.declared.reply.Reply.{Reply}
 use Rattle.lvs_types.specs.declared.reply.Reply.TheVariants as reply
+use Rattle.lvs_types.specs.Protocols.{proto_code}
 use Rattle.lvs_model.specs.State.{State}
-use Rattle.lvs_model.specs.Same.{proto_code, dest_eq}
+use Rattle.lvs_model.specs.Same.{dest_eq}
 use Rattle.lvs_model.specs.Lists.{without}
 use Rattle.lvs_model.specs.Overload.{overload_ended}
 use Rattle.lvs_model.specs.Counts.{total, refs, controls}

@@ -1,5 +1,5 @@
 -- Edits of the tables, the timeouts and the daemons (ipvsadm(8)): the first refusal in the order of each command, which leaves the state as it was, or what the edit makes of it.
-use Rattle.std.specs.Prelude.{ℕ, not, ◌+◌, Bool, true, false, ◌&&◌, ◌==◌, List, [], ◌∷◌, ◌++◌, Option, Some, None, if◌then◌else◌, nat_lt}
+use Rattle.std.specs.Prelude.{ℕ, not, ◌+◌, Bool, true, false, ◌&&◌, ◌==◌, List, [], ◌∷◌, ◌++◌, Option, Some, None, if◌then◌else◌}
 use Rattle.std.specs.List.{find, list_any, filter_map}
 use Rattle.lvs_types.specs.declared.addr.Addr.{Addr}
 use Rattle.lvs_types.specs.declared.addr.DestId.{DestId}
@@ -18,6 +18,7 @@ use Rattle.lvs_types.specs.declared.reply.Reply.{Reply}
 use Rattle.lvs_types.specs.declared.reply.Reply.TheVariants as reply
 use Rattle.lvs_types.specs.declared.reply.EditRefused.TheVariants as refused
 use Rattle.lvs_types.specs.Settings.{with_setting}
+use Rattle.lvs_types.specs.Thresholds.{has_bad_thresholds}
 use Rattle.lvs_model.specs.State.{State}
 use Rattle.lvs_model.specs.Same.{service_key_eq, dest_id_eq, dest_eq}
 use Rattle.lvs_model.specs.Lists.{update_first, without}
@@ -79,10 +80,6 @@ remove_service s key = remove_service_by s key (is_service s key)
 -- -C: all services, as by -D
 abbrev pub clear : State → Reply × State
 clear s = (reply.Done, record s { services = []; dests = remove_dests (λ (d : Dest). d.live) s.entries s.templates s.dests })
-
--- the lower threshold is above the upper one
-abbrev pub has_bad_thresholds : DestSpec → Bool
-has_bad_thresholds spec = nat_lt spec.upper spec.lower
 
 -- a server in the trash of this service, address and port
 abbrev pub is_revivable : ServiceKey → DestSpec → Dest → Bool

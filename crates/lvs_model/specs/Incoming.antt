@@ -12,12 +12,13 @@ use Rattle.lvs_types.specs.declared.settings.Settings.{Settings}
 use Rattle.lvs_types.specs.declared.reply.Reply.{Reply}
 use Rattle.lvs_types.specs.declared.reply.Reply.TheVariants as reply
 use Rattle.lvs_types.specs.declared.reply.DropCause.TheVariants as drops
+use Rattle.lvs_types.specs.Transport.{transport_of}
 use Rattle.lvs_model.specs.State.{State}
 use Rattle.lvs_model.specs.Lists.{without}
 use Rattle.lvs_model.specs.Lookups.{entry_at, dest_at, has_entry_id}
 use Rattle.lvs_model.specs.Reading.{read}
 use Rattle.lvs_model.specs.Binding.{count_ended, try_binding}
-use Rattle.lvs_model.specs.Packets.{Packet, transport_of, key_of, is_syn_of}
+use Rattle.lvs_model.specs.Packets.{Packet, key_of, is_syn_of}
 use Rattle.lvs_model.specs.Forwarding.{forward_known}
 use Rattle.lvs_model.specs.Scheduling.{connect}
 

@@ -1,11 +1,11 @@
 -- A record of a sync message arrives (the connection synchronisation protocol; what a record makes of the tables is this project's profile).
-use Rattle.std.specs.Prelude.{ℕ, ◌+◌, ◌%◌, slice_get, Bool, true, false, ◌&&◌, ◌==◌, List, [], ◌∷◌, ◌++◌, Option, Some, None, if◌then◌else◌}
+use Rattle.std.specs.Prelude.{ℕ, ◌+◌, ◌%◌, Bool, true, false, ◌&&◌, ◌==◌, List, [], ◌∷◌, ◌++◌, Option, Some, None, if◌then◌else◌}
+use Rattle.std.specs.Option.{unwrap_or}
 use Rattle.lvs_types.specs.declared.service.Proto.{Proto}
 use Rattle.lvs_types.specs.declared.service.Proto.TheVariants.{Tcp, Udp}
 use Rattle.lvs_types.specs.declared.service.Method.{Method}
-use Rattle.lvs_types.specs.declared.service.Method.TheVariants.{Masq, Tunnel, Direct}
+use Rattle.lvs_types.specs.declared.service.Method.TheVariants.{Direct}
 use Rattle.lvs_types.specs.declared.entry.TcpState.{TcpState}
-use Rattle.lvs_types.specs.declared.entry.TcpState.TheVariants.{None0, Established, SynSent, SynRecv, FinWait, TimeWait, Close, CloseWait, LastAck, Listen, SynAck}
 use Rattle.lvs_types.specs.declared.entry.Key.{Key}
 use Rattle.lvs_types.specs.declared.entry.Entry.{Entry}
 use Rattle.lvs_types.specs.declared.template.TemplateKey.{TemplateKey}
@@ -17,6 +17,8 @@ use Rattle.lvs_types.specs.declared.sync.Learnt.{Learnt}
 use Rattle.lvs_types.specs.declared.sync.Learnt.TheVariants as learnt
 use Rattle.lvs_types.specs.declared.reply.Reply.{Reply}
 use Rattle.lvs_types.specs.declared.reply.Reply.TheVariants as reply
+use Rattle.lvs_types.specs.Methods.{method_of_code}
+use Rattle.lvs_types.specs.StateNumbers.{state_of_number}
 use Rattle.lvs_model.specs.State.{State}
 use Rattle.lvs_model.specs.Same.{addr_eq}
 use Rattle.lvs_model.specs.Lists.{without}
@@ -35,15 +37,12 @@ recorded_proto r = if r.code == 6 then Tcp else Udp
 
 -- the method of the low three bits of an accepted record's flags
 abbrev pub recorded_method : SyncRecord → Method
-recorded_method r = if r.flags % 8 == 0 then Masq else (if r.flags % 8 == 2 then Tunnel else Direct)
-
-abbrev pub states : List TcpState
-states = None0 ∷ Established ∷ SynSent ∷ SynRecv ∷ FinWait ∷ TimeWait ∷ Close ∷ CloseWait ∷ LastAck ∷ Listen ∷ SynAck ∷ []
+recorded_method r = unwrap_or (method_of_code (r.flags % 8)) Direct
 
 -- the state of an accepted record's number; UDP has none
 abbrev pub recorded_state : Proto → ℕ → Option TcpState
 recorded_state Udp number = None
-recorded_state Tcp number = slice_get states number
+recorded_state Tcp number = state_of_number number
 
 abbrev pub recorded_key : SyncRecord → Key
 recorded_key r = record { proto = recorded_proto r; caddr = r.caddr; cport = r.cport; vaddr = r.vaddr; vport = r.vport }

@@ -20,10 +20,10 @@ use Rattle.lvs_types.specs.declared.book.Shown.{Shown}
 use Rattle.lvs_types.specs.declared.book.Shown.TheVariants as shown
 use Rattle.lvs_types.specs.declared.book.ShownText.{ShownText}
 use Rattle.lvs_types.specs.declared.icmp.Side.TheVariants.{Inward, Outward}
+use Rattle.lvs_types.specs.Schedulers.{scheduler_name}
 use Rattle.lvs_model.specs.State.{State}
 use Rattle.lvs_model.specs.Lookups.{is_server_of}
 use Rattle.lvs_model.specs.Snapshots.{snapshot_of}
-use Rattle.lvs_model.specs.AdminTables.{scheduler_name}
 use Rattle.lvs_model.specs.Report.{addr_text}
 use Rattle.lvs_model.specs.IcmpErrors.{icmp_answer, icmp_text}
 

@@ -8,11 +8,11 @@ use Rattle.lvs_types.specs.declared.entry.Entry.{Entry}
 use Rattle.lvs_types.specs.declared.reply.Reply.{Reply}
 use Rattle.lvs_types.specs.declared.reply.Reply.TheVariants as reply
 use Rattle.lvs_types.specs.declared.reply.DropCause.TheVariants as drops
+use Rattle.lvs_types.specs.Transport.{transport_of}
 use Rattle.lvs_model.specs.State.{State}
 use Rattle.lvs_model.specs.Reading.{read}
 use Rattle.lvs_model.specs.Rewriting.{masq_out_bytes}
 use Rattle.lvs_model.specs.Lookups.{reply_entry}
-use Rattle.lvs_model.specs.Packets.{transport_of}
 use Rattle.lvs_model.specs.Binding.{put_entry}
 use Rattle.lvs_model.specs.Forwarding.{state_after, in_state}
 

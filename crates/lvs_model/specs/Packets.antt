@@ -1,11 +1,10 @@
 -- A packet that the director looks at: unfragmented TCP or UDP.
-use Rattle.std.specs.Prelude.{ℕ, not, Bool, true, false, ◌&&◌, ◌||◌, List, Option, None, if◌then◌else◌, nat_lt}
+use Rattle.std.specs.Prelude.{ℕ, not, Bool, true, false, ◌&&◌, ◌||◌, List, nat_lt}
 use Rattle.lvs_types.specs.declared.head.Head.{Head}
 use Rattle.lvs_types.specs.declared.service.Proto.{Proto}
 use Rattle.lvs_types.specs.declared.service.Proto.TheVariants.{Tcp, Udp}
 use Rattle.lvs_types.specs.declared.settings.Settings.{Settings}
 use Rattle.lvs_types.specs.declared.entry.Key.{Key}
-use Rattle.lvs_model.specs.Binding.{proto_of_code}
 
 -- a packet with its mark and protocol
 pub record Packet : Type 0 where
@@ -14,10 +13,6 @@ pub record Packet : Type 0 where
   pub head : Head
   -- the bytes up to the total length
   pub bytes : List ℕ
-
--- the protocol of a packet, none for a fragment and for others than TCP and UDP
-abbrev pub transport_of : Head → Option Proto
-transport_of head = if head.fragment then None else proto_of_code head.code
 
 -- the client's side is the source
 abbrev pub key_of : Proto → Head → Key

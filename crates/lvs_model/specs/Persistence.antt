@@ -8,7 +8,7 @@ use Rattle.lvs_types.specs.declared.service.Service.{Service}
 use Rattle.lvs_types.specs.declared.dest.Dest.{Dest}
 use Rattle.lvs_types.specs.declared.settings.Settings.{Settings}
 use Rattle.lvs_types.specs.declared.template.TemplateKey.{TemplateKey}
-use Rattle.lvs_model.specs.Same.{proto_code}
+use Rattle.lvs_types.specs.Protocols.{proto_code}
 use Rattle.lvs_model.specs.Lookups.{dest_at}
 
 -- the leading bits of an address, the others cleared

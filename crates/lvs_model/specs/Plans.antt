@@ -15,11 +15,11 @@ use Rattle.lvs_types.specs.declared.script.ScriptLine.TheVariants as line
 use Rattle.lvs_types.specs.declared.book.Placed.{Placed}
 use Rattle.lvs_types.specs.declared.book.RoundPlan.{RoundPlan}
 use Rattle.lvs_types.specs.declared.book.Shown.{Shown}
-use Rattle.lvs_model.specs.Same.{proto_code}
+use Rattle.lvs_types.specs.Protocols.{proto_code}
+use Rattle.lvs_types.specs.Transport.{transport_of}
 use Rattle.lvs_model.specs.Reading.{read}
 use Rattle.lvs_model.specs.MessageReading.{read_sync}
 use Rattle.lvs_model.specs.Numbers.{worker_of}
-use Rattle.lvs_model.specs.Packets.{transport_of}
 
 -- one Learn for each record, or one BadSync
 abbrev pub items_of_message : Result Message BadSync → List Item

@@ -1,5 +1,5 @@
 -- When two values of the director's types are the same, as tests that compute.
-use Rattle.std.specs.Prelude.{ℕ, Bool, true, false, ◌&&◌, ◌==◌, Option, Some, None}
+use Rattle.std.specs.Prelude.{Bool, true, false, ◌&&◌, ◌==◌, Option, Some, None}
 use Rattle.lvs_types.specs.declared.addr.Addr.{Addr}
 use Rattle.lvs_types.specs.declared.addr.DestId.{DestId}
 use Rattle.lvs_types.specs.declared.addr.TemplateId.{TemplateId}
@@ -11,11 +11,6 @@ use Rattle.lvs_types.specs.declared.service.ServiceKey.{ServiceKey}
 use Rattle.lvs_types.specs.declared.service.ServiceKey.TheVariants.{Net, Mark}
 use Rattle.lvs_types.specs.declared.entry.Key.{Key}
 use Rattle.lvs_types.specs.declared.template.TemplateKey.{TemplateKey}
-
--- the number of a protocol (RFC 791, section 3.1)
-abbrev pub proto_code : Proto → ℕ
-proto_code Tcp = 6
-proto_code Udp = 17
 
 abbrev pub proto_eq : Proto → Proto → Bool
 proto_eq Tcp Tcp = true

@@ -1,7 +1,5 @@
 -- Which connections are synchronised, what is sent of them, and what becomes of a record that arrives (the Linux ipvs-sysctl document, sync_threshold; the rest is this project's profile).
-use Rattle.std.specs.Prelude.{ℕ, ◌+◌, ◌%◌, Bool, true, false, not, ◌&&◌, ◌||◌, ◌==◌, nat_le, Option, Some, None, if◌then◌else◌, bit_and}
-use Rattle.lvs_types.specs.declared.service.Method.{Method}
-use Rattle.lvs_types.specs.declared.service.Method.TheVariants.{Masq, Tunnel, Direct}
+use Rattle.std.specs.Prelude.{ℕ, ◌+◌, ◌%◌, Bool, true, false, not, ◌&&◌, ◌||◌, ◌==◌, Option, Some, None, is_some, if◌then◌else◌, bit_and}
 use Rattle.lvs_types.specs.declared.service.Proto.TheVariants.{Tcp}
 use Rattle.lvs_types.specs.declared.entry.TcpState.{TcpState}
 use Rattle.lvs_types.specs.declared.entry.TcpState.TheVariants.{Established, FinWait, TimeWait, Close, CloseWait}
@@ -13,8 +11,11 @@ use Rattle.lvs_types.specs.declared.sync.SyncItem.{SyncItem}
 use Rattle.lvs_types.specs.declared.sync.SyncItem.TheVariants.{V4, V6}
 use Rattle.lvs_types.specs.declared.sync.Learnt.{Learnt}
 use Rattle.lvs_types.specs.declared.sync.Learnt.TheVariants as learnt
-use Rattle.lvs_model.specs.Same.{proto_code, proto_eq}
-use Rattle.lvs_model.specs.Timeouts.{state_number, is_active}
+use Rattle.lvs_types.specs.Protocols.{proto_code, proto_of_code}
+use Rattle.lvs_types.specs.Methods.{method_code, method_of_code}
+use Rattle.lvs_types.specs.StateNumbers.{state_number, state_of_number}
+use Rattle.lvs_model.specs.Same.{proto_eq}
+use Rattle.lvs_model.specs.Timeouts.{is_active}
 
 -- the states whose entries are sent
 abbrev pub is_synced_state : Option TcpState → Bool
@@ -40,12 +41,6 @@ is_count_due settings packets =
 abbrev pub due_for_sync : Settings → Option TcpState → Entry → Bool
 due_for_sync settings old entry =
     proto_eq entry.key.proto Tcp && is_synced_state entry.state && (not (same_state old entry.state) || is_count_due settings entry.packets)
-
--- the low three bits of the flags (the layout of Linux IPVS)
-abbrev pub method_code : Method → ℕ
-method_code Masq = 0
-method_code Tunnel = 2
-method_code Direct = 3
 
 -- the state of a record; 0 for UDP
 abbrev pub state_code : Option TcpState → ℕ
@@ -90,15 +85,15 @@ is_template_record r = not (bit_and r.flags 0x1000 == 0)
 
 -- the protocol is TCP or UDP, or 0 in the record of a template
 abbrev pub has_known_protocol : SyncRecord → Bool
-has_known_protocol r = (r.code == 6) || (r.code == 17) || (is_template_record r && (r.code == 0))
+has_known_protocol r = is_some (proto_of_code r.code) || (is_template_record r && (r.code == 0))
 
 -- the state of a TCP connection's record is one that there is
 abbrev pub has_known_state : SyncRecord → Bool
-has_known_state r = is_template_record r || not (r.code == 6) || nat_le r.state 10
+has_known_state r = is_template_record r || not (r.code == 6) || is_some (state_of_number r.state)
 
 -- the low three bits are a method's
 abbrev pub has_known_method : SyncRecord → Bool
-has_known_method r = (r.flags % 8 == 0) || (r.flags % 8 == 2) || (r.flags % 8 == 3)
+has_known_method r = is_some (method_of_code (r.flags % 8))
 
 -- an IPv4 record that a backup with the right sync id takes or refuses
 abbrev pub accept_record : SyncRecord → Learnt

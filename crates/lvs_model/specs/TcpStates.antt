@@ -5,7 +5,7 @@ use Rattle.lvs_types.specs.declared.entry.Direction.{Direction}
 use Rattle.lvs_types.specs.declared.entry.Direction.TheVariants.{Input, Output, InputOnly}
 use Rattle.lvs_types.specs.declared.entry.TcpState.{TcpState}
 use Rattle.lvs_types.specs.declared.entry.TcpState.TheVariants.{Established as ES, SynSent as SS, SynRecv as SR, FinWait as FW, TimeWait as TW, Close as CL, CloseWait as CW, LastAck as LA, Listen as LI}
-use Rattle.lvs_model.specs.Timeouts.{state_number}
+use Rattle.lvs_types.specs.StateNumbers.{state_number}
 
 -- the flag of a packet that chooses a row
 pub data Flag : Type 0 where

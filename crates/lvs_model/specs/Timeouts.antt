@@ -1,22 +1,8 @@
--- How long an entry of a state is kept, which states count as active, and the states' numbers (ipvsadm(8), --set; the other timeouts and the numbers are those of Linux ipvs).
+-- How long an entry of a state is kept, and which states count as active (ipvsadm(8), --set; the other timeouts are those of Linux ipvs).
 use Rattle.std.specs.Prelude.{ℕ, Bool, true, false, Option, Some, None}
 use Rattle.lvs_types.specs.declared.settings.Settings.{Settings}
 use Rattle.lvs_types.specs.declared.entry.TcpState.{TcpState}
 use Rattle.lvs_types.specs.declared.entry.TcpState.TheVariants.{None0, Established, SynSent, SynRecv, FinWait, TimeWait, Close, CloseWait, LastAck, Listen, SynAck}
-
--- the number of a state, in the tables and in sync messages
-abbrev pub state_number : TcpState → ℕ
-state_number None0 = 0
-state_number Established = 1
-state_number SynSent = 2
-state_number SynRecv = 3
-state_number FinWait = 4
-state_number TimeWait = 5
-state_number Close = 6
-state_number CloseWait = 7
-state_number LastAck = 8
-state_number Listen = 9
-state_number SynAck = 10
 
 -- in seconds; without a state it is that of UDP
 abbrev pub timeout_of : Settings → Option TcpState → ℕ

@@ -12,12 +12,12 @@ use Rattle.lvs_types.specs.declared.entry.Key.{Key}
 use Rattle.lvs_types.specs.declared.entry.Entry.{Entry}
 use Rattle.lvs_types.specs.declared.template.TemplateKey.{TemplateKey}
 use Rattle.lvs_types.specs.declared.template.Template.{Template}
+use Rattle.lvs_types.specs.Thresholds.{has_bad_thresholds}
 use Rattle.lvs_model.specs.State.{State}
 use Rattle.lvs_model.specs.Same.{addr_eq, proto_eq, key_eq, service_key_eq, template_key_eq}
 use Rattle.lvs_model.specs.Lookups.{has_service_key, is_server_of, dest_at}
 use Rattle.lvs_model.specs.Binding.{serves_at}
 use Rattle.lvs_model.specs.Incoming.{server_named}
-use Rattle.lvs_model.specs.Edits.{has_bad_thresholds}
 
 -- KEYS AND IDS
 

@@ -14,11 +14,11 @@ use Rattle.lvs_types.specs.declared.sync.SyncItem.{SyncItem}
 use Rattle.lvs_types.specs.declared.script.Round.{Round}
 use Rattle.lvs_types.specs.declared.script.ScriptLine.{ScriptLine}
 use Rattle.lvs_types.specs.declared.script.ScriptLine.TheVariants as line
-use Rattle.lvs_model.specs.Same.{proto_code}
+use Rattle.lvs_types.specs.Protocols.{proto_code}
+use Rattle.lvs_types.specs.Transport.{transport_of}
 use Rattle.lvs_model.specs.Reading.{read}
 use Rattle.lvs_model.specs.MessageReading.{read_sync}
 use Rattle.lvs_model.specs.Numbers.{mix}
-use Rattle.lvs_model.specs.Packets.{transport_of}
 use Rattle.lvs_model.specs.Plans.{items_of_message, items_of_line, items_of_lines, actor_of, items_of_actor, serial_order, worker_by, worker_at, worker_in, worker_out, worker_of_item, items_of_worker, clock_items}
 
 -- NO LINE HAS AN ITEM OF THE CLOCK

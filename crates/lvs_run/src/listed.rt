@@ -25,24 +25,6 @@ pub(crate) fn has_listing(round: &Round) -> bool
     round.lines.as_slice().iter().any(is_listing)
 }
 
-fn copied(alloc: Global, bytes: &Bytes) -> Result<Bytes, NoMemory>
-    ensures { IfOk result (λ copy. copy ≡ bytes.now) }
-{
-    Ok(Bytes::copied(alloc, bytes.as_slice())?)
-}
-
-fn kind_of(alloc: Global, kind: &Shown) -> Result<Shown, NoMemory>
-    ensures { IfOk result (λ copy. copy ≡ kind.now) }
-{
-    Ok(match kind {
-        Shown::List => Shown::List,
-        Shown::Conns => Shown::Conns,
-        Shown::Save => Shown::Save,
-        Shown::IcmpIn(bytes) => Shown::IcmpIn(copied(alloc, bytes)?),
-        Shown::IcmpOut(bytes) => Shown::IcmpOut(copied(alloc, bytes)?),
-    })
-}
-
 /// The lines of a listing. No line of a script asks for an answer to an ICMP error so far.
 fn text_of(alloc: Global, tables: &Snapshot, kind: &Shown) -> Result<Bytes, NoMemory>
     ensures { IfOk result (λ text. text ≡ text_of tables.entry.now kind.now) }
@@ -60,7 +42,7 @@ fn show(alloc: Global, tables: &Snapshot, kind: &Shown) -> Result<ShownText, NoM
     ensures { IfOk result (λ shown. shown ≡ shown_in tables.entry.now kind.now) }
 {
     Ok(ShownText {
-        kind: kind_of(alloc, kind)?,
+        kind: kind.copy(alloc)?,
         text: text_of(alloc, tables, kind)?,
     })
 }

@@ -1,14 +1,12 @@
 //! Whose list an item goes to, where there are several workers.
 ghost use Rattle.std.specs.Prelude.{◌≡◌, ℕ, ◌<◌};
-ghost use Rattle.lvs_model.specs.Same.{proto_code};
 ghost use Rattle.lvs_model.specs.Reading.{read};
-ghost use Rattle.lvs_model.specs.Packets.{transport_of};
 ghost use Rattle.lvs_model.specs.Plans.{worker_at, worker_in, worker_out};
 ghost use Rattle.lvs_script.specs.Planning.{actor_among};
 
 use lvs_headers::read_packet;
 use lvs_model::worker_of;
-use lvs_types::{Head, Item, Proto};
+use lvs_types::Item;
 
 /// Who an item is for.
 #[derive(Clone, Copy, Debug, PartialEq, Eq)]
@@ -18,30 +16,6 @@ pub(crate) enum Actor {
     Sync,
     /// The number of the worker, from 0.
     Worker(u32),
-}
-
-/// The protocol of an unfragmented TCP or UDP packet.
-fn transport_of(head: &Head) -> Option<Proto>
-    ensures { result ≡ transport_of head.now }
-{
-    if head.fragment {
-        return None;
-    }
-    match head.code {
-        6 => Some(Proto::Tcp),
-        17 => Some(Proto::Udp),
-        _ => None,
-    }
-}
-
-/// The number of a protocol (RFC 791, section 3.1).
-fn code_of(proto: Proto) -> u8
-    ensures { result ≡ proto_code proto }
-{
-    match proto {
-        Proto::Tcp => 6,
-        Proto::Udp => 17,
-    }
 }
 
 /// The worker of an incoming packet, whose source is the client: worker 0 where the packet isn't
@@ -55,9 +29,9 @@ fn worker_of_incoming(bytes: &[u8], workers: u32) -> u32
         return 0;
     };
     let head = packet.head();
-    match transport_of(&head) {
+    match head.transport() {
         None => 0,
-        Some(proto) => worker_of(code_of(proto), head.src, head.sport, workers),
+        Some(proto) => worker_of(proto.code(), head.src, head.sport, workers),
     }
 }
 
@@ -71,9 +45,9 @@ fn worker_of_outgoing(bytes: &[u8], workers: u32) -> u32
         return 0;
     };
     let head = packet.head();
-    match transport_of(&head) {
+    match head.transport() {
         None => 0,
-        Some(proto) => worker_of(code_of(proto), head.dst, head.dport, workers),
+        Some(proto) => worker_of(proto.code(), head.dst, head.dport, workers),
     }
 }
 

@@ -51,7 +51,7 @@ fn push_line(alloc: Global, items: &mut Vec<Item>, line: &ScriptLine) -> Result<
 }
 
 /// A copy of bytes.
-pub(crate) fn copied(alloc: Global, bytes: &Bytes) -> Result<Bytes, NoMemory>
+fn copied(alloc: Global, bytes: &Bytes) -> Result<Bytes, NoMemory>
     ensures { IfOk result (λ copy. copy ≡ bytes.now) }
 {
     Ok(Bytes::copied(alloc, bytes.as_slice())?)

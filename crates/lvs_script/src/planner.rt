@@ -5,7 +5,7 @@ ghost use Rattle.lvs_model.specs.Plans.{clock_items, shown_by, plan as plan_of};
 ghost use Rattle.lvs_script.specs.Planning.{lists_in, empty_lists, with_item_at, with_item, with_items};
 
 use crate::actors::{Actor, actor_of};
-use crate::items::{copied, items_of_lines};
+use crate::items::items_of_lines;
 use lvs_types::{Item, Listed, NoMemory, Round, RoundPlan, ScriptLine, Shown};
 use std::alloc::Global;
 use std::marker::Model;
@@ -129,19 +129,6 @@ fn clock_items(alloc: Global, buckets: u32) -> Result<Vec<Item>, NoMemory>
     Ok(items)
 }
 
-/// A copy of what is shown.
-fn copied_shown(alloc: Global, shown: &Shown) -> Result<Shown, NoMemory>
-    ensures { IfOk result (λ copy. copy ≡ shown.now) }
-{
-    Ok(match shown {
-        Shown::List => Shown::List,
-        Shown::Conns => Shown::Conns,
-        Shown::Save => Shown::Save,
-        Shown::IcmpIn(bytes) => Shown::IcmpIn(copied(alloc, bytes)?),
-        Shown::IcmpOut(bytes) => Shown::IcmpOut(copied(alloc, bytes)?),
-    })
-}
-
 /// The listings of lines, in order.
 fn listings(alloc: Global, lines: &[ScriptLine]) -> Result<Listed<Shown>, NoMemory>
     ensures { IfOk result (λ shown. shown ≡ filter_map shown_by lines.now) }
@@ -149,7 +136,7 @@ fn listings(alloc: Global, lines: &[ScriptLine]) -> Result<Listed<Shown>, NoMemo
     let mut listings = Vec::new(alloc);
     for line in lines {
         if let ScriptLine::Show(shown) = line {
-            listings.push(copied_shown(alloc, shown)?)?;
+            listings.push(shown.copy(alloc)?)?;
         }
     }
     Ok(Listed::from_vec(listings))

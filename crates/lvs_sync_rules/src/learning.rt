@@ -2,13 +2,10 @@
 ghost use Rattle.std.specs.Prelude.{◌≡◌};
 ghost use Rattle.lvs_model.specs.SyncRules.{accept, accept_item, accept_record, has_known_protocol, has_known_state, has_known_method, is_template_record};
 
-use lvs_types::{Learnt, SyncItem, SyncRecord};
+use lvs_types::{Learnt, Method, Proto, SyncItem, SyncRecord, TcpState};
 
 /// The flag of a template's record.
 const TEMPLATE: u32 = 0x1000;
-
-/// The last number of a TCP state.
-const LAST_STATE: u16 = 10;
 
 /// Whether a record of a message with a sync id is learnt by a backup daemon (`None`: none runs),
 /// and for which cause not; where several fit, it is the first in the order of [`Learnt`]'s
@@ -58,18 +55,18 @@ fn is_template(arrived: &SyncRecord) -> bool
 fn is_protocol(arrived: &SyncRecord) -> bool
     ensures { result ≡ has_known_protocol arrived.now }
 {
-    matches!(arrived.code, 6 | 17) || is_template(arrived) && arrived.code == 0
+    Proto::of_code(arrived.code).is_some() || is_template(arrived) && arrived.code == 0
 }
 
 /// Only the record of a TCP connection has a state.
 fn is_state(arrived: &SyncRecord) -> bool
     ensures { result ≡ has_known_state arrived.now }
 {
-    is_template(arrived) || arrived.code != 6 || arrived.state <= LAST_STATE
+    is_template(arrived) || arrived.code != 6 || TcpState::of_number(arrived.state).is_some()
 }
 
 fn is_method(arrived: &SyncRecord) -> bool
     ensures { result ≡ has_known_method arrived.now }
 {
-    matches!(arrived.flags % 8, 0 | 2 | 3)
+    Method::of_code(arrived.flags % 8).is_some()
 }

@@ -1,8 +1,8 @@
 //! The records that are sent of entries and templates.
 ghost use Rattle.std.specs.Prelude.{◌≡◌};
-ghost use Rattle.lvs_model.specs.SyncRules.{of_entry, of_template, method_code, state_code};
+ghost use Rattle.lvs_model.specs.SyncRules.{of_entry, of_template, state_code};
 
-use lvs_types::{Entry, Method, Proto, SyncRecord, TcpState, Template};
+use lvs_types::{Entry, SyncRecord, TcpState, Template};
 
 /// The flag of an entry that isn't in state Established.
 const INACTIVE: u32 = 0x100;
@@ -20,11 +20,8 @@ pub fn of_entry(entry: &Entry) -> SyncRecord
         INACTIVE
     };
     SyncRecord {
-        code: match entry.key.proto {
-            Proto::Tcp => 6,
-            Proto::Udp => 17,
-        },
-        flags: method_number(entry.method) + inactive,
+        code: entry.key.proto.code(),
+        flags: entry.method.code() + inactive,
         state: state_of(entry.state),
         cport: entry.key.cport,
         vport: entry.key.vport,
@@ -49,7 +46,7 @@ pub fn of_template(template: &Template) -> SyncRecord
     };
     SyncRecord {
         code: template.key.code,
-        flags: method_number(template.method) + TEMPLATE,
+        flags: template.method.code() + TEMPLATE,
         state: 0,
         cport: 0,
         vport: template.key.vport,
@@ -62,30 +59,11 @@ pub fn of_template(template: &Template) -> SyncRecord
     }
 }
 
-fn method_number(method: Method) -> u32
-    ensures { result ≡ method_code method }
-{
-    match method {
-        Method::Masq => 0,
-        Method::Tunnel => 2,
-        Method::Direct => 3,
-    }
-}
-
 fn state_of(state: Option<TcpState>) -> u16
     ensures { result ≡ state_code state }
 {
     match state {
-        None | Some(TcpState::None0) => 0,
-        Some(TcpState::Established) => 1,
-        Some(TcpState::SynSent) => 2,
-        Some(TcpState::SynRecv) => 3,
-        Some(TcpState::FinWait) => 4,
-        Some(TcpState::TimeWait) => 5,
-        Some(TcpState::Close) => 6,
-        Some(TcpState::CloseWait) => 7,
-        Some(TcpState::LastAck) => 8,
-        Some(TcpState::Listen) => 9,
-        Some(TcpState::SynAck) => 10,
+        None => 0,
+        Some(state) => state.number(),
     }
 }

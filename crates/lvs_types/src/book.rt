@@ -1,5 +1,8 @@
 //! Rounds: their plans and their books.
-use crate::{Bytes, Item, Listed, Reply};
+ghost use Rattle.std.specs.Prelude.{◌≡◌, IfOk};
+
+use crate::{Bytes, Item, Listed, NoMemory, Reply};
+use std::alloc::Global;
 
 /// An item with its answer, as the book of a round keeps it.
 #[derive(Debug, PartialEq, Drop)]
@@ -60,6 +63,21 @@ pub enum Shown {
     IcmpIn(Bytes),
     /// The answer to an ICMP error from a server's side.
     IcmpOut(Bytes),
+}
+
+impl Shown {
+    /// A copy, with bytes of its own.
+    pub fn copy(&self, alloc: Global) -> Result<Shown, NoMemory>
+        ensures { IfOk result (λ copy. copy ≡ self.now) }
+    {
+        Ok(match self {
+            Shown::List => Shown::List,
+            Shown::Conns => Shown::Conns,
+            Shown::Save => Shown::Save,
+            Shown::IcmpIn(bytes) => Shown::IcmpIn(Bytes::copied(alloc, bytes.as_slice())?),
+            Shown::IcmpOut(bytes) => Shown::IcmpOut(Bytes::copied(alloc, bytes.as_slice())?),
+        })
+    }
 }
 
 /// A listing with its lines.

@@ -1,4 +1,7 @@
 //! Real servers (ipvsadm(8)).
+ghost use Rattle.std.specs.Prelude.{◌≡◌};
+ghost use Rattle.lvs_types.specs.Thresholds.{has_bad_thresholds};
+
 use crate::{Addr, DestId, Method, ServiceKey};
 
 /// What a command says of a real server.
@@ -14,6 +17,15 @@ pub struct DestSpec {
     pub upper: u32,
     /// Below so many connections an overloaded server is free again; 0 means three quarters of `upper`.
     pub lower: u32,
+}
+
+impl DestSpec {
+    /// Whether the lower threshold is above the upper one, for which `-a` and `-e` are refused.
+    pub fn has_bad_thresholds(&self) -> bool
+        ensures { result ≡ has_bad_thresholds self.now }
+    {
+        self.upper < self.lower
+    }
 }
 
 /// A real server, live or in the trash.

@@ -1,4 +1,7 @@
 //! Connection entries and their TCP states.
+ghost use Rattle.std.specs.Prelude.{◌≡◌};
+ghost use Rattle.lvs_types.specs.StateNumbers.{state_number, state_of_number};
+
 use crate::{Addr, DestId, Method, Proto, TemplateId};
 
 /// The state of a TCP connection as the director sees it, numbered from 0 to 10 in this order.
@@ -63,4 +66,47 @@ pub struct Entry {
     pub template: Option<TemplateId>,
     /// The mark of its mark service, else 0.
     pub mark: u32,
+}
+
+/// The states in the order of their numbers.
+const STATES: [TcpState; 11] = [
+    TcpState::None0,
+    TcpState::Established,
+    TcpState::SynSent,
+    TcpState::SynRecv,
+    TcpState::FinWait,
+    TcpState::TimeWait,
+    TcpState::Close,
+    TcpState::CloseWait,
+    TcpState::LastAck,
+    TcpState::Listen,
+    TcpState::SynAck,
+];
+
+impl TcpState {
+    /// The number of the state in sync messages, 0 to 10 (Linux IPVS).
+    pub fn number(self) -> u16
+        ensures { result ≡ state_number self }
+    {
+        match self {
+            TcpState::None0 => 0,
+            TcpState::Established => 1,
+            TcpState::SynSent => 2,
+            TcpState::SynRecv => 3,
+            TcpState::FinWait => 4,
+            TcpState::TimeWait => 5,
+            TcpState::Close => 6,
+            TcpState::CloseWait => 7,
+            TcpState::LastAck => 8,
+            TcpState::Listen => 9,
+            TcpState::SynAck => 10,
+        }
+    }
+
+    /// The state of a number; none above 10.
+    pub fn of_number(number: u16) -> Option<TcpState>
+        ensures { result ≡ state_of_number number }
+    {
+        STATES.get(usize::from(number)).copied()
+    }
 }

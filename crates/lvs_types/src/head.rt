@@ -1,5 +1,8 @@
 //! What the headers of a packet say (RFC 791, RFC 768, RFC 9293).
-use crate::Addr;
+ghost use Rattle.std.specs.Prelude.{◌≡◌};
+ghost use Rattle.lvs_types.specs.Transport.{transport_of};
+
+use crate::{Addr, Proto};
 
 /// What the IPv4 header and the TCP or UDP header say. Ports and flags are 0 and false where they
 /// weren't read: in fragments and in other protocols.
@@ -25,6 +28,20 @@ pub struct Head {
     pub ack: bool,
     pub fin: bool,
     pub rst: bool,
+}
+
+impl Head {
+    /// The protocol of an unfragmented TCP or UDP packet; none for a fragment and for every other
+    /// protocol.
+    pub fn transport(&self) -> Option<Proto>
+        ensures { result ≡ transport_of self.now }
+    {
+        if self.fragment {
+            None
+        } else {
+            Proto::of_code(self.code)
+        }
+    }
 }
 
 /// Why bytes are no packet, in the order in which the causes are looked for.

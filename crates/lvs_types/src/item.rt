@@ -1,5 +1,8 @@
 //! The items that a director takes.
-use crate::{BadSync, Bytes, Command, Setting, SyncItem};
+ghost use Rattle.std.specs.Prelude.{◌≡◌, IfOk};
+
+use crate::{BadSync, Bytes, Command, NoMemory, Setting, SyncItem};
+use std::alloc::Global;
 
 /// One event of a director.
 #[derive(Debug, PartialEq, Drop)]
@@ -22,4 +25,32 @@ pub enum Item {
     Reap,
     /// The pending records are sent.
     SendSync,
+}
+
+impl Item {
+    /// A copy, with bytes of its own.
+    pub fn copy(&self, alloc: Global) -> Result<Item, NoMemory>
+        ensures { IfOk result (λ copy. copy ≡ self.now) }
+    {
+        Ok(match self {
+            Item::Incoming { mark, bytes } => Item::Incoming {
+                mark: *mark,
+                bytes: Bytes::copied(alloc, bytes.as_slice())?,
+            },
+            Item::Outgoing { bytes } => Item::Outgoing {
+                bytes: Bytes::copied(alloc, bytes.as_slice())?,
+            },
+            Item::Edit(command) => Item::Edit(*command),
+            Item::Set(setting) => Item::Set(*setting),
+            Item::Learn { sync_id, item } => Item::Learn {
+                sync_id: *sync_id,
+                item: *item,
+            },
+            Item::BadSync(cause) => Item::BadSync(*cause),
+            Item::Tick(moment) => Item::Tick(*moment),
+            Item::Sweep(bucket) => Item::Sweep(*bucket),
+            Item::Reap => Item::Reap,
+            Item::SendSync => Item::SendSync,
+        })
+    }
 }

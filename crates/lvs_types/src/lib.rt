@@ -27,6 +27,7 @@ mod sync;
 mod template;
 #[cfg(test)]
 mod tests;
+pub mod worked_examples;
 
 pub use addr::{Addr, DestId, TemplateId};
 pub use book::{Noted, Placed, RoundBook, RoundPlan, Shown, ShownText};

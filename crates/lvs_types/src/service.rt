@@ -1,4 +1,9 @@
 //! Virtual services (ipvsadm(8)).
+ghost use Rattle.std.specs.Prelude.{◌≡◌};
+ghost use Rattle.lvs_types.specs.Protocols.{proto_code, proto_of_code};
+ghost use Rattle.lvs_types.specs.Methods.{method_code, method_of_code};
+ghost use Rattle.lvs_types.specs.Schedulers.{scheduler_name, scheduler_named};
+
 use crate::{Addr, DestId};
 
 /// The transport protocol of a service, an entry or a packet.
@@ -67,4 +72,99 @@ pub struct Service {
     /// One-packet scheduling of UDP, `-o`.
     pub one_packet: bool,
     pub cursor: Cursor,
+}
+
+impl Proto {
+    /// The number of the protocol in an IP header: 6 or 17 (RFC 791, section 3.1).
+    pub fn code(self) -> u8
+        ensures { result ≡ proto_code self }
+    {
+        match self {
+            Proto::Tcp => 6,
+            Proto::Udp => 17,
+        }
+    }
+
+    /// The protocol of a number; none for every number but 6 and 17.
+    pub fn of_code(code: u8) -> Option<Proto>
+        ensures { result ≡ proto_of_code code }
+    {
+        match code {
+            6 => Some(Proto::Tcp),
+            17 => Some(Proto::Udp),
+            _ => None,
+        }
+    }
+}
+
+impl Method {
+    /// The number of the method in the low three bits of a sync record's flags: 0 masquerading,
+    /// 2 tunnelling, 3 direct routing (the layout of Linux IPVS).
+    pub fn code(self) -> u32
+        ensures { result ≡ method_code self }
+    {
+        match self {
+            Method::Masq => 0,
+            Method::Tunnel => 2,
+            Method::Direct => 3,
+        }
+    }
+
+    /// The method of a number; none for every number but 0, 2 and 3.
+    pub fn of_code(code: u32) -> Option<Method>
+        ensures { result ≡ method_of_code code }
+    {
+        match code {
+            0 => Some(Method::Masq),
+            2 => Some(Method::Tunnel),
+            3 => Some(Method::Direct),
+            _ => None,
+        }
+    }
+}
+
+/// All schedulers.
+const SCHEDULERS: [Scheduler; 11] = [
+    Scheduler::Rr,
+    Scheduler::Wrr,
+    Scheduler::Lc,
+    Scheduler::Wlc,
+    Scheduler::Sed,
+    Scheduler::Nq,
+    Scheduler::Sh,
+    Scheduler::Dh,
+    Scheduler::Fo,
+    Scheduler::Ovf,
+    Scheduler::Mh,
+];
+
+impl Scheduler {
+    /// The name of the scheduler, in lower-case letters (ipvsadm(8), scheduling-method).
+    pub fn name(self) -> &'static [u8]
+        ensures { result.now ≡ scheduler_name self }
+    {
+        match self {
+            Scheduler::Rr => b"rr",
+            Scheduler::Wrr => b"wrr",
+            Scheduler::Lc => b"lc",
+            Scheduler::Wlc => b"wlc",
+            Scheduler::Sed => b"sed",
+            Scheduler::Nq => b"nq",
+            Scheduler::Sh => b"sh",
+            Scheduler::Dh => b"dh",
+            Scheduler::Fo => b"fo",
+            Scheduler::Ovf => b"ovf",
+            Scheduler::Mh => b"mh",
+        }
+    }
+
+    /// The scheduler that a word names; none where it is no scheduler's name.
+    pub fn named(word: &[u8]) -> Option<Scheduler>
+        ensures { result ≡ scheduler_named word.now }
+    {
+        SCHEDULERS
+            .iter()
+            .copied()
+            .find(|scheduler| word == scheduler.name())
+    }
 }

@@ -4,8 +4,9 @@ use Rattle.lvs_types.specs.declared.command.Command.{Command}
 use Rattle.lvs_types.specs.declared.command.Command.TheVariants as command
 use Rattle.lvs_types.specs.declared.settings.Setting.{Setting}
 use Rattle.lvs_types.specs.Settings.{with_setting}
+use Rattle.lvs_types.specs.Thresholds.{has_bad_thresholds}
 use Rattle.lvs_model.specs.State.{State}
-use Rattle.lvs_model.specs.Edits.{edit, set, is_service, is_server, has_bad_thresholds, with_timeouts, start_master, start_backup, stop_master, stop_backup}
+use Rattle.lvs_model.specs.Edits.{edit, set, is_service, is_server, with_timeouts, start_master, start_backup, stop_master, stop_backup}
 use Rattle.lvs_well_formed.proofs.Parts.{Parts, After, ids_stay, stays}
 use Rattle.lvs_well_formed.proofs.Clocks.{with_clock}
 use Rattle.lvs_well_formed.proofs.Services.{add_service_after, edit_service_after, remove_service_after, clear_after}

@@ -1,9 +1,9 @@
 -- A learnt record keeps the state well formed.
-use Rattle.std.proofs.Common.{◌≡◌, ◌==◌, ◌≤◌, ◌+◌, ℕ, Bool, true, false, cond, not, ◌||◌, List, [], ◌∷◌, ◌++◌, Option, Some, None, refl, sym, ap, subst, ◌∙◌, is_none, nat_le, slice_get, zero, suc, arith}
-use Rattle.std.proofs.lemmas.Bool.{leb-true}
+use Rattle.std.proofs.Common.{◌≡◌, ◌==◌, ◌≤◌, ◌+◌, ℕ, Bool, true, false, cond, not, ◌||◌, List, [], ◌∷◌, ◌++◌, Option, Some, None, refl, sym, ap, subst, ◌∙◌, is_none, is_some}
 use Rattle.std.specs.List.{AllByRecursion, find}
 use Rattle.lvs_types.specs.declared.service.Proto.TheVariants.{Tcp, Udp}
 use Rattle.lvs_types.specs.declared.addr.TemplateId.{TemplateId}
+use Rattle.lvs_types.specs.declared.entry.TcpState.{TcpState}
 use Rattle.lvs_types.specs.declared.entry.Key.{Key}
 use Rattle.lvs_types.specs.declared.entry.Entry.{Entry}
 use Rattle.lvs_types.specs.declared.template.TemplateKey.{TemplateKey}
@@ -13,6 +13,7 @@ use Rattle.lvs_types.specs.declared.sync.SyncItem.TheVariants.{V4, V6}
 use Rattle.lvs_types.specs.declared.sync.SyncRecord.{SyncRecord}
 use Rattle.lvs_types.specs.declared.sync.Learnt.{Learnt}
 use Rattle.lvs_types.specs.declared.sync.Learnt.TheVariants as learnt
+use Rattle.lvs_types.specs.StateNumbers.{state_of_number}
 use Rattle.lvs_model.specs.State.{State}
 use Rattle.lvs_model.specs.Same.{proto_eq}
 use Rattle.lvs_model.specs.SyncRules.{accept, accept_item, accept_record, has_known_protocol, has_known_state, has_known_method, is_template_record}
@@ -20,7 +21,7 @@ use Rattle.lvs_model.specs.Lists.{without}
 use Rattle.lvs_model.specs.Lookups.{entry_at, template_at, has_template_key, has_template_id}
 use Rattle.lvs_model.specs.Binding.{put_entry, template_tried}
 use Rattle.lvs_model.specs.Incoming.{end_entry}
-use Rattle.lvs_model.specs.Learning.{states, recorded_proto, recorded_state, recorded_key, recorded_entry, add_entry, relearnt, goes_to_recorded, relearn, learn_connection, recorded_template_key, recorded_template, add_template, relearnt_template, template_goes_to_recorded, relearn_template, learn_template, learn_record, learn_item, learn_by, learn}
+use Rattle.lvs_model.specs.Learning.{recorded_proto, recorded_state, recorded_key, recorded_entry, add_entry, relearnt, goes_to_recorded, relearn, learn_connection, recorded_template_key, recorded_template, add_template, relearnt_template, template_goes_to_recorded, relearn_template, learn_template, learn_record, learn_item, learn_by, learn}
 use Rattle.lvs_model.specs.WellFormed.{TemplateHasServer, HasStateOfProto}
 use Rattle.lvs_well_formed.proofs.Lists.{all_find}
 use Rattle.lvs_well_formed.proofs.Finds.{find_put}
@@ -33,31 +34,21 @@ use Rattle.lvs_well_formed.proofs.Free.{free_ended, free_none, found_by_key, fou
 
 -- THE STATE THAT IS RECORDED
 
-state_there : (n : ℕ) → n ≤ 10 → is_none (slice_get states n) ≡ false
-state_there zero few = refl
-state_there (suc zero) few = refl
-state_there (suc (suc zero)) few = refl
-state_there (suc (suc (suc zero))) few = refl
-state_there (suc (suc (suc (suc zero)))) few = refl
-state_there (suc (suc (suc (suc (suc zero))))) few = refl
-state_there (suc (suc (suc (suc (suc (suc zero)))))) few = refl
-state_there (suc (suc (suc (suc (suc (suc (suc zero))))))) few = refl
-state_there (suc (suc (suc (suc (suc (suc (suc (suc zero)))))))) few = refl
-state_there (suc (suc (suc (suc (suc (suc (suc (suc (suc zero))))))))) few = refl
-state_there (suc (suc (suc (suc (suc (suc (suc (suc (suc (suc zero)))))))))) few = refl
-state_there (suc (suc (suc (suc (suc (suc (suc (suc (suc (suc (suc n))))))))))) few = absurd (omega arith)
+some_there : (o : Option TcpState) → is_some o ≡ true → is_none o ≡ false
+some_there (Some state) is = refl
+some_there None is = absurd cc
 
 -- the state of the record is that of its protocol
 abbrev pub HasItsState : SyncRecord → Type 0
 HasItsState r = is_none (recorded_state (recorded_proto r) r.state) ≡ proto_eq (recorded_proto r) Udp
 
-tcp_state : (b known : Bool) (number : ℕ) → ((not b) || nat_le number 10) ≡ true → is_none (recorded_state (cond b Tcp Udp) number) ≡ proto_eq (cond b Tcp Udp) Udp
-tcp_state true known number is = state_there number (leb-true number 10 is)
+tcp_state : (b known : Bool) (number : ℕ) → ((not b) || is_some (state_of_number number)) ≡ true → is_none (recorded_state (cond b Tcp Udp) number) ≡ proto_eq (cond b Tcp Udp) Udp
+tcp_state true known number is = some_there (state_of_number number) is
 tcp_state false known number is = refl
 
 own_state : (r : SyncRecord) → is_template_record r ≡ false → has_known_state r ≡ true → HasItsState r
 own_state r connection known =
-    tcp_state (r.code == 6) true r.state (subst (λ b. ((b || not (r.code == 6)) || nat_le r.state 10) ≡ true) connection known)
+    tcp_state (r.code == 6) true r.state (subst (λ b. ((b || not (r.code == 6)) || is_some (state_of_number r.state)) ≡ true) connection known)
 
 accepted_by : (protocol state method : Bool) → cond (not protocol) learnt.BadProto (cond (not state) learnt.BadState (cond (not method) learnt.BadMethod learnt.Accepted)) ≡ learnt.Accepted → state ≡ true
 accepted_by true true method is = refl

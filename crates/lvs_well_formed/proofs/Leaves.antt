@@ -14,8 +14,9 @@ use Rattle.lvs_types.specs.declared.reply.EditRefused.{EditRefused}
 use Rattle.lvs_types.specs.declared.sync.SyncItem.{SyncItem}
 use Rattle.lvs_types.specs.declared.sync.Learnt.{Learnt}
 use Rattle.lvs_types.specs.declared.sync.Learnt.TheVariants as learnt
+use Rattle.lvs_types.specs.Thresholds.{has_bad_thresholds}
 use Rattle.lvs_model.specs.State.{State}
-use Rattle.lvs_model.specs.Edits.{edit, add_service_by, edit_service_by, remove_service_by, add_server_by, edit_server_by, remove_server_by, remove_server_at, start_master, start_backup, stop_master, stop_backup, is_service, is_server, has_bad_thresholds}
+use Rattle.lvs_model.specs.Edits.{edit, add_service_by, edit_service_by, remove_service_by, add_server_by, edit_server_by, remove_server_by, remove_server_at, start_master, start_backup, stop_master, stop_backup, is_service, is_server}
 use Rattle.lvs_model.specs.Lookups.{is_server_at}
 use Rattle.lvs_model.specs.SyncRules.{accept}
 use Rattle.lvs_model.specs.Learning.{learn, learn_by}

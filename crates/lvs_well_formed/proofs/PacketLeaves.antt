@@ -14,13 +14,14 @@ use Rattle.lvs_types.specs.declared.template.Template.{Template}
 use Rattle.lvs_types.specs.declared.reply.Reply.{Reply}
 use Rattle.lvs_types.specs.declared.reply.Reply.TheVariants as reply
 use Rattle.lvs_types.specs.declared.reply.DropCause.TheVariants as drops
+use Rattle.lvs_types.specs.Transport.{transport_of}
 use Rattle.lvs_model.specs.State.{State}
 use Rattle.lvs_model.specs.Reading.{read}
 use Rattle.lvs_model.specs.Rewriting.{is_too_long, bytes_for}
 use Rattle.lvs_model.specs.Counts.{candidates}
 use Rattle.lvs_model.specs.Pick.{pick}
 use Rattle.lvs_model.specs.Lookups.{find_service, servers_of, template_at, entry_at, reply_entry}
-use Rattle.lvs_model.specs.Packets.{Packet, transport_of, key_of, may_connect}
+use Rattle.lvs_model.specs.Packets.{Packet, key_of, may_connect}
 use Rattle.lvs_model.specs.Binding.{try_binding, put_template, template_tried}
 use Rattle.lvs_model.specs.Persistence.{template_key, usable_server}
 use Rattle.lvs_model.specs.Forwarding.{forwarded, forward_known}

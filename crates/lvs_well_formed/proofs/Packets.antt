@@ -9,10 +9,11 @@ use Rattle.lvs_types.specs.declared.entry.Direction.TheVariants.{Output}
 use Rattle.lvs_types.specs.declared.reply.Reply.{Reply}
 use Rattle.lvs_types.specs.declared.reply.Reply.TheVariants as reply
 use Rattle.lvs_types.specs.declared.reply.DropCause.TheVariants as drops
+use Rattle.lvs_types.specs.Transport.{transport_of}
 use Rattle.lvs_model.specs.State.{State}
 use Rattle.lvs_model.specs.Lists.{lower_of, least_by}
 use Rattle.lvs_model.specs.Lookups.{entry_at, reply_entry, is_reply_of, has_entry_id}
-use Rattle.lvs_model.specs.Packets.{Packet, transport_of, key_of}
+use Rattle.lvs_model.specs.Packets.{Packet, key_of}
 use Rattle.lvs_model.specs.Binding.{try_binding}
 use Rattle.lvs_model.specs.Forwarding.{state_after, in_state}
 use Rattle.lvs_model.specs.Incoming.{end_entry, continue, arrive, take_back, incoming_packet, incoming_of, incoming_read, server_named, is_reused, is_trashed}

@@ -9,11 +9,12 @@ use Rattle.lvs_types.specs.declared.dest.Dest.{Dest}
 use Rattle.lvs_types.specs.declared.dest.DestSpec.{DestSpec}
 use Rattle.lvs_types.specs.declared.entry.Entry.{Entry}
 use Rattle.lvs_types.specs.declared.template.Template.{Template}
+use Rattle.lvs_types.specs.Thresholds.{has_bad_thresholds}
 use Rattle.lvs_model.specs.State.{State}
 use Rattle.lvs_model.specs.Same.{addr_eq, service_key_eq}
 use Rattle.lvs_model.specs.Lists.{update_first}
 use Rattle.lvs_model.specs.Lookups.{dest_at, has_dest_id, has_service_key, is_server_of, stands_at, is_server_at}
-use Rattle.lvs_model.specs.Edits.{is_service, is_server, has_bad_thresholds, is_revivable, new_dest, revived, place_server, add_server_by, respecified, edit_server_by}
+use Rattle.lvs_model.specs.Edits.{is_service, is_server, is_revivable, new_dest, revived, place_server, add_server_by, respecified, edit_server_by}
 use Rattle.lvs_model.specs.WellFormed.{HasService, HasCursor, HasGoodThresholds, IsLastOf, is_live_server, place_eq, place_of, Place}
 use Rattle.lvs_well_formed.proofs.Lists.{all_weaker, all_both, all_true, all_push, all_find, find_none, find_passes, any_none}
 use Rattle.lvs_well_formed.proofs.Distinct.{distinct_push}

@@ -4,10 +4,11 @@ use Rattle.lvs_types.specs.declared.head.Head.{Head}
 use Rattle.lvs_types.specs.declared.head.Malformed.{Malformed}
 use Rattle.lvs_types.specs.declared.service.Proto.{Proto}
 use Rattle.lvs_types.specs.declared.entry.Entry.{Entry}
+use Rattle.lvs_types.specs.Transport.{transport_of}
 use Rattle.lvs_model.specs.State.{State}
 use Rattle.lvs_model.specs.Reading.{read}
 use Rattle.lvs_model.specs.Lookups.{entry_at}
-use Rattle.lvs_model.specs.Packets.{transport_of, key_of}
+use Rattle.lvs_model.specs.Packets.{key_of}
 use Rattle.lvs_model.specs.Binding.{try_binding}
 use Rattle.lvs_model.specs.Incoming.{end_entry}
 

@@ -5,7 +5,7 @@ ghost use Rattle.lvs_types.specs.declared.entry.Direction.TheVariants as directi
 ghost use Rattle.lvs_types.specs.declared.head.Head.{Head};
 ghost use Rattle.lvs_types.specs.Settings.{default_settings};
 ghost use Rattle.lvs_model.specs.TcpStates.{next_state};
-ghost use Rattle.lvs_model.specs.Timeouts.{timeout_of, is_active, state_number};
+ghost use Rattle.lvs_model.specs.Timeouts.{timeout_of, is_active};
 
 /// A SYN opens a connection, and the client's ACK establishes it.
 pub fn handshake()
@@ -21,9 +21,8 @@ pub fn default_timeouts()
     ensures udp { timeout_of default_settings None ≡ 300 }
 {}
 
-/// The last number, and what counts as active.
+/// What counts as active.
 pub fn counted()
-    ensures last { state_number state.SynAck ≡ 10 }
     ensures established { is_active (Some state.Established) ≡ true }
     ensures fin_wait { is_active (Some state.FinWait) ≡ false }
     ensures udp { is_active None ≡ false }
