@@ -13,8 +13,11 @@ pub enum RestoreRefused {
     /// number of words where one is missing; and the cause.
     #[error("line {line}, word {at}: {cause:?}")]
     Refused {
+        /// From 1.
         line: u64,
+        /// From 0.
         at: usize,
+        /// What is wrong with the word.
         cause: WordsCause,
     },
     /// There was no memory.

@@ -6,9 +6,10 @@ use thiserror::Error;
 /// Why a sync message was not read.
 #[derive(Debug, Drop, Error)]
 pub enum MessageRefused {
-    /// The bytes are no sync message, for this cause.
+    /// The bytes are no sync message, for the first cause that is met.
     #[error("not a sync message: {0:?}")]
     Bad(BadSync),
+    /// There was no memory for the records.
     #[error("no memory")]
     NoMemory,
 }

@@ -3,6 +3,7 @@
 /// An IPv4 address, in host order: 10.0.0.1 is 0x0A000001 (RFC 791, section 3.1).
 #[derive(Clone, Copy, Debug, PartialEq, Eq, PartialOrd, Ord, Hash)]
 pub struct Addr {
+    /// The four bytes of the address as one number, the first one highest.
     pub number: u32,
 }
 

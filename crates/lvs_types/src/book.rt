@@ -11,15 +11,20 @@ pub struct Noted {
     pub actor: u32,
     /// The item's number in its actor's list, from 0.
     pub number: u64,
+    /// What was asked.
     pub item: Item,
+    /// What was answered.
     pub reply: Reply,
 }
 
 /// An item with its actor and its number in the actor's list.
 #[derive(Debug, PartialEq, Drop)]
 pub struct Placed {
+    /// 0 the clock, 1 control, 2 sync, 3 and up the workers.
     pub actor: u32,
+    /// The item's number in its actor's list, from 0.
     pub number: u64,
+    /// What is asked.
     pub item: Item,
 }
 
@@ -30,7 +35,9 @@ pub struct RoundBook {
     pub number: u64,
     /// In seconds.
     pub moment: u64,
+    /// How many workers took packets, 1 to 16.
     pub workers: u32,
+    /// How many buckets the clock swept, 1 to 256.
     pub buckets: u32,
     /// The acts in order of place.
     pub acts: Listed<Noted>,
@@ -43,6 +50,7 @@ pub struct RoundBook {
 pub struct RoundPlan {
     /// In seconds.
     pub moment: u64,
+    /// How many buckets the clock sweeps, 1 to 256.
     pub buckets: u32,
     /// The items of the clock, of control, of sync and of each worker.
     pub lists: Listed<Listed<Item>>,
@@ -83,6 +91,7 @@ impl Shown {
 /// A listing with its lines.
 #[derive(Debug, PartialEq, Drop)]
 pub struct ShownText {
+    /// What is shown.
     pub kind: Shown,
     /// The lines between the first and the last, each with its line feed.
     pub text: Bytes,

@@ -4,6 +4,7 @@ use crate::{Entry, Listed};
 /// What a bucket has for an item.
 #[derive(Debug, PartialEq, Drop)]
 pub enum Found {
+    /// No entry has the item's key or reply tuple, or the item looks for none.
     Nothing,
     /// The entry of the item's key or reply tuple.
     One(Entry),
@@ -14,6 +15,7 @@ pub enum Found {
 /// A change of a bucket's entries.
 #[derive(Clone, Copy, Debug, PartialEq, Eq)]
 pub enum Change {
+    /// All entries stay as they are.
     Keep,
     /// A new entry.
     Put(Entry),

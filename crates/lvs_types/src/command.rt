@@ -33,6 +33,7 @@ pub enum Command {
 /// What the words of an `ipvs` line mean.
 #[derive(Debug, PartialEq, Drop)]
 pub enum Line {
+    /// A command that changes tables, timeouts or daemons.
     Edit(Command),
     /// `-L`, `-L -c` or `-S`.
     Show(Shown),

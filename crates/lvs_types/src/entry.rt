@@ -7,16 +7,27 @@ use crate::{Addr, DestId, Method, Proto, TemplateId};
 /// The state of a TCP connection as the director sees it, numbered from 0 to 10 in this order.
 #[derive(Clone, Copy, Debug, PartialEq, Eq)]
 pub enum TcpState {
+    /// 0: no packet was seen yet.
     None0,
+    /// 1: the handshake is done; the one state that counts as active.
     Established,
+    /// 2: the real server sent a SYN.
     SynSent,
+    /// 3: the client sent a SYN.
     SynRecv,
+    /// 4: one side has sent a FIN.
     FinWait,
+    /// 5: both sides have sent a FIN.
     TimeWait,
+    /// 6: the connection was reset or closed.
     Close,
+    /// 7: the client has sent a FIN.
     CloseWait,
+    /// 8: the last ACK is awaited.
     LastAck,
+    /// 9: the real server listens.
     Listen,
+    /// 10: a SYN was answered.
     SynAck,
 }
 
@@ -34,10 +45,15 @@ pub enum Direction {
 /// What a connection is known by: protocol, client and virtual side.
 #[derive(Clone, Copy, Debug, PartialEq, Eq)]
 pub struct Key {
+    /// TCP or UDP.
     pub proto: Proto,
+    /// The client's address.
     pub caddr: Addr,
+    /// The client's port.
     pub cport: u16,
+    /// The virtual address.
     pub vaddr: Addr,
+    /// The virtual port.
     pub vport: u16,
 }
 
@@ -46,9 +62,11 @@ pub struct Key {
 pub struct Entry {
     /// Its creation number: from 1, rising, never used again.
     pub id: u64,
+    /// What it is known by; no two entries have the same key.
     pub key: Key,
     /// The real server that it counts at; none where it is unbound.
     pub server: Option<DestId>,
+    /// How its packets are forwarded.
     pub method: Method,
     /// The address to which its packets go.
     pub daddr: Addr,

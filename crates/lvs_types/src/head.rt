@@ -14,19 +14,31 @@ pub struct Head {
     pub total: u16,
     /// The protocol's number.
     pub code: u8,
+    /// The type of service.
     pub tos: u8,
+    /// The identification.
     pub id: u16,
+    /// The don't-fragment bit.
     pub dont_fragment: bool,
     /// Whether more fragments follow, or the offset isn't 0.
     pub fragment: bool,
+    /// The time to live, in hops.
     pub ttl: u8,
+    /// The source address.
     pub src: Addr,
+    /// The destination address.
     pub dst: Addr,
+    /// The source port, in host order.
     pub sport: u16,
+    /// The destination port, in host order.
     pub dport: u16,
+    /// TCP's SYN.
     pub syn: bool,
+    /// TCP's ACK.
     pub ack: bool,
+    /// TCP's FIN.
     pub fin: bool,
+    /// TCP's RST.
     pub rst: bool,
 }
 

@@ -23,5 +23,6 @@ pub enum IcmpAnswer {
     Gone,
     /// The ICMP checksum is wrong.
     BadSum,
+    /// The bytes are no packet.
     Malformed(Malformed),
 }

@@ -11,7 +11,9 @@ pub enum Item {
     Incoming { mark: u32, bytes: Bytes },
     /// A packet from a real server.
     Outgoing { bytes: Bytes },
+    /// A command of ipvsadm(8).
     Edit(Command),
+    /// A sysctl takes a value.
     Set(Setting),
     /// A record of a sync message that arrived, with the message's sync id.
     Learn { sync_id: u8, item: SyncItem },

@@ -29,16 +29,28 @@ pub enum Method {
 /// How a real server is picked for a new connection (ipvsadm(8), scheduling-method).
 #[derive(Clone, Copy, Debug, PartialEq, Eq)]
 pub enum Scheduler {
+    /// Round robin: the first eligible server after the one picked last.
     Rr,
+    /// Weighted round robin, by the greatest common divisor of the eligible weights.
     Wrr,
+    /// Least connection: the least of 256 times active plus inactive.
     Lc,
+    /// Weighted least connection: the least of that over weight.
     Wlc,
+    /// Shortest expected delay: the least of active plus 1, over weight.
     Sed,
+    /// Never queue: the first eligible server without active connections, else as sed.
     Nq,
+    /// Source hashing: the server of the slot of the packet's source.
     Sh,
+    /// Destination hashing: the server of the slot of the packet's destination.
     Dh,
+    /// Weighted failover: the eligible server of greatest weight.
     Fo,
+    /// Weighted overflow: as fo, among the servers with at most as many active connections as their
+    /// weight.
     Ovf,
+    /// Maglev hashing: the server of the client's slot, from a table filled in rounds.
     Mh,
 }
 
@@ -63,7 +75,9 @@ pub struct Cursor {
 /// A virtual service.
 #[derive(Clone, Copy, Debug, PartialEq, Eq)]
 pub struct Service {
+    /// What it is known by; no two services have the same key.
     pub key: ServiceKey,
+    /// How its servers are picked, `-s`.
     pub scheduler: Scheduler,
     /// The timeout of its persistence templates in seconds, `-p`.
     pub persist: Option<u32>,
@@ -71,6 +85,7 @@ pub struct Service {
     pub mask_bits: u8,
     /// One-packet scheduling of UDP, `-o`.
     pub one_packet: bool,
+    /// Where the scheduler stands.
     pub cursor: Cursor,
 }
 

@@ -30,19 +30,27 @@ pub struct Settings {
 /// A sysctl with its value (the Linux ipvs-sysctl document).
 #[derive(Clone, Copy, Debug, PartialEq, Eq)]
 pub enum Setting {
+    /// expire_nodest_conn, 0 to 2,147,483,647.
     ExpireNodest(u32),
+    /// expire_quiescent_template, 0 to 2,147,483,647.
     ExpireQuiescent(u32),
+    /// sloppy_tcp, 0 to 2,147,483,647.
     SloppyTcp(u32),
+    /// conn_reuse_mode, 0 or 1.
     ReuseMode(u32),
     /// The threshold and the period.
     SyncThreshold(u32, u32),
+    /// sync_version, 0 or 1.
     SyncVersion(u32),
 }
 
 /// The sync ids of the daemons that run.
 #[derive(Clone, Copy, Debug, PartialEq, Eq)]
 pub struct Daemons {
+    /// Of the master, which sends; none where it doesn't run.
     pub master: Option<u8>,
+    /// Of the backup, which learns; none where it doesn't run. With 0 it takes the messages of
+    /// every sync id.
     pub backup: Option<u8>,
 }
 

@@ -10,11 +10,18 @@ pub struct Snapshot {
     pub now: u64,
     /// The source of tunnel packets.
     pub local: Addr,
+    /// The sysctls and timeouts.
     pub settings: Settings,
+    /// The sync daemons that run.
     pub daemons: Daemons,
+    /// In order of addition.
     pub services: Listed<Service>,
+    /// Live servers service by service in order of addition, then those in the trash by id.
     pub dests: Listed<DestRow>,
+    /// By id.
     pub templates: Listed<Template>,
+    /// By id.
     pub entries: Listed<Entry>,
+    /// The records that the next sending takes, in order.
     pub pending: Listed<SyncRecord>,
 }

@@ -17,12 +17,17 @@ pub struct TemplateKey {
 /// A persistence template: the clients of its key go to one real server.
 #[derive(Clone, Copy, Debug, PartialEq, Eq)]
 pub struct Template {
+    /// Its number in order of creation.
     pub id: TemplateId,
+    /// What it is known by; no two templates have the same key.
     pub key: TemplateKey,
     /// None where it is unbound.
     pub server: Option<DestId>,
+    /// How the packets of its clients' connections are forwarded.
     pub method: Method,
+    /// The address of the real server.
     pub daddr: Addr,
+    /// The port of the real server; 0 stands for the packet's destination port.
     pub dport: u16,
     /// In seconds.
     pub timeout: u32,
