@@ -62,3 +62,8 @@ pub mod ScriptLimits
 pub mod CaptureFiles
 pub mod Captured
 pub mod Pairs
+pub mod ProgramWords
+pub mod Inputs
+pub mod Verdicts
+pub mod Summaries
+pub mod ExampleBooks

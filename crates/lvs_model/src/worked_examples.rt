@@ -11,6 +11,7 @@ pub mod messages;
 pub mod numbers;
 pub mod pairs;
 pub mod picks;
+pub mod program;
 pub mod reading;
 pub mod report;
 pub mod rewriting;
