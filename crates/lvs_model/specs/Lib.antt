@@ -67,3 +67,5 @@ pub mod Inputs
 pub mod Verdicts
 pub mod Summaries
 pub mod ExampleBooks
+pub mod Checking
+pub mod ExampleReports

@@ -1,6 +1,7 @@
 //! Worked examples of the definitions, which the prover computes.
 pub mod buckets;
 pub mod captures;
+pub mod checking;
 pub mod demo;
 pub mod director;
 pub mod errors;
