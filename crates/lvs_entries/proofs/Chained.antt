@@ -6,8 +6,7 @@ use Rattle.lvs_types.specs.declared.entry.Entry.{Entry}
 use Rattle.lvs_model.specs.Lists.{without}
 use Rattle.lvs_entries.specs.Seen.{ChainSeen}
 use Rattle.lvs_entries.specs.Store.{Belongs, AreChained, all_of}
-use Rattle.lvs_entries.proofs.Order.{all_weaker}
-use Rattle.lvs_entries.proofs.Passing.{filter_none, keep_all, change_none}
+use Rattle.lvs_model.proofs.OrderLemmas.{all_weaker, filter_none, keep_all, change_none, all_join, join_front, join_back}
 
 no_pass : (place : ℕ → Option ℕ) (n : ℕ) (p : Entry → Bool) (e : Entry) (b : Bool) → p e ≡ b → Belongs place n e → ((e : Entry) → Belongs place n e → p e ≡ true → ⊥) → p e ≡ false
 no_pass place n p e true is here none = absurd (none e here is)
@@ -16,10 +15,6 @@ no_pass place n p e false is here none = is
 -- no entry of the chain passes
 pub chain_fails : (place : ℕ → Option ℕ) (n : ℕ) (p : Entry → Bool) (es : List Entry) → AllByRecursion (Belongs place n) es → ((e : Entry) → Belongs place n e → p e ≡ true → ⊥) → AllByRecursion (λ e. p e ≡ false) es
 chain_fails place n p es all none = all_weaker (Belongs place n) (λ e. p e ≡ false) (λ e here. no_pass place n p e (p e) refl here none) es all
-
-pub all_join : {X : Type 0} (P : X → Type 0) (xs ys : List X) → AllByRecursion P xs → AllByRecursion P ys → AllByRecursion P (xs ++ ys)
-all_join P [] ys front back = back
-all_join P (x ∷ xs) ys front back = (front.0, all_join P xs ys front.1 back)
 
 -- no entry of these chains passes
 pub chains_fail : (place : ℕ → Option ℕ) (n : ℕ) (p : Entry → Bool) (chains : List ChainSeen) → AreChained place n chains → ((j : ℕ) (e : Entry) → n ≤ j → Belongs place j e → p e ≡ true → ⊥) → AllByRecursion (λ e. p e ≡ false) (all_of chains)
@@ -60,14 +55,6 @@ chained_set place n zero k (x ∷ chains) c chained within at all =
     let same : k ≡ n = omega arith in
     (all_weaker (Belongs place k) (Belongs place n) (λ e here. record { by_key = here.by_key ∙ same; by_id = here.by_id ∙ ap (λ m. Some m) same }) c.entries all, chained.1)
 chained_set place n (suc i) k (x ∷ chains) c chained within at all = (chained.0, chained_set place (n + 1) i k chains c chained.1 (omega arith) (omega arith) all)
-
-pub join_front : {X : Type 0} (P : X → Type 0) (xs ys : List X) → AllByRecursion P (xs ++ ys) → AllByRecursion P xs
-join_front P [] ys all = tt
-join_front P (x ∷ xs) ys all = (all.0, join_front P xs ys all.1)
-
-pub join_back : {X : Type 0} (P : X → Type 0) (xs ys : List X) → AllByRecursion P (xs ++ ys) → AllByRecursion P ys
-join_back P [] ys all = all
-join_back P (x ∷ xs) ys all = join_back P xs ys all.1
 
 moved : (place place' : ℕ → Option ℕ) (n : ℕ) (es : List Entry) → AllByRecursion (Belongs place n) es → AllByRecursion (λ (e : Entry). place' e.id ≡ place e.id) es → AllByRecursion (Belongs place' n) es
 moved place place' n [] all same = tt

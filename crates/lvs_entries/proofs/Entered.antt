@@ -11,25 +11,11 @@ use Rattle.lvs_model.specs.Lookups.{has_key, has_entry_id, entry_at}
 use Rattle.lvs_entries.specs.Chains.{key_chain}
 use Rattle.lvs_entries.specs.Seen.{ChainSeen}
 use Rattle.lvs_entries.specs.Store.{Belongs, AreChained, IsStore, all_of, entries_in}
-use Rattle.lvs_entries.proofs.Order.{all_weaker, sorted_put}
+use Rattle.lvs_model.proofs.OrderLemmas.{all_weaker, sorted_put, filter_none, none_found, find_none, find_sorted, count_put, join_front, join_back, all_join, put_once}
 use Rattle.lvs_entries.proofs.Listed.{id_of}
-use Rattle.lvs_entries.proofs.Passing.{filter_none, none_found, find_none, find_sorted, count_put}
-use Rattle.lvs_entries.proofs.Chained.{IsPut, chain_at, chained_set, chained_moved, put_at, join_front, join_back, all_join}
+use Rattle.lvs_entries.proofs.Chained.{IsPut, chain_at, chained_set, chained_moved, put_at}
 use Rattle.lvs_entries.proofs.Belonging.{key_same}
 use Rattle.lvs_entries.proofs.Kept.{room_write, room_less, room_at, places_kept}
-
-pub count_zero : {X : Type 0} (p : X → Bool) (xs : List X) → AllByRecursion (λ x. p x ≡ false) xs → count_by p xs ≡ 0
-count_zero p xs none = sym (length-filter p xs) ∙ ap (λ ys. length ys) (filter_none p xs none)
-
--- one more passes, where none did, or it doesn't pass
-pub put_once : {X : Type 0} (p : X → Bool) (x : X) (front back : List X) (b : Bool) → p x ≡ b → (p x ≡ true → AllByRecursion (λ y. p y ≡ false) (front ++ back)) → count_by p (front ++ back) ≤ 1 → count_by p (front ++ x ∷ back) ≤ 1
-put_once p x front back true is none once =
-    let whole = count_put p x front back ∙ ap (λ (b : Bool). cond b 1 0 + count_by p (front ++ back)) is in
-    let zero_there = count_zero p (front ++ back) (none is) in
-    omega arith
-put_once p x front back false is none once =
-    let whole = count_put p x front back ∙ ap (λ (b : Bool). cond b 1 0 + count_by p (front ++ back)) is in
-    omega arith
 
 -- what holds of all entries holds of those of a chain
 part_at : (P : Entry → Type 0) (i : ℕ) (d : ChainSeen) (chains : List ChainSeen) → i < length chains → AllByRecursion P (all_of chains) → AllByRecursion P (get_or chains i d).entries

@@ -8,9 +8,8 @@ use Rattle.lvs_model.specs.Lists.{without, sorted_by}
 use Rattle.lvs_model.specs.Lookups.{has_key, has_entry_id}
 use Rattle.lvs_entries.specs.Seen.{ChainSeen}
 use Rattle.lvs_entries.specs.Store.{Belongs, HaveRoom, IsStore, all_of, entries_in}
-use Rattle.lvs_entries.proofs.Order.{all_weaker, all_filter, filter_sorted}
+use Rattle.lvs_model.proofs.OrderLemmas.{all_weaker, all_filter, filter_sorted, keep_all, count_filter}
 use Rattle.lvs_entries.proofs.Listed.{id_of}
-use Rattle.lvs_entries.proofs.Passing.{keep_all, count_filter}
 use Rattle.lvs_entries.proofs.Chained.{chain_at, chained_set, chained_moved, without_at}
 use Rattle.lvs_entries.proofs.Belonging.{id_only}
 use Rattle.lvs_entries.proofs.Looking.{id_nowhere}

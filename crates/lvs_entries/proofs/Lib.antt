@@ -1,10 +1,7 @@
 pub mod Least
 pub mod Updates
-pub mod Order
-pub mod Members
 pub mod Rooms
 pub mod Listed
-pub mod Passing
 pub mod Chained
 pub mod Belonging
 pub mod Looking

@@ -7,8 +7,7 @@ use Rattle.std.proofs.Common.{List, Option, count_by}
 use Rattle.lvs_types.specs.declared.entry.Key.{Key}
 use Rattle.lvs_entries.specs.Seen.{AreListed, ChainSeen}
 use Rattle.lvs_entries.specs.Store.{IsStore, all_of, entries_in}
-use Rattle.lvs_entries.proofs.Order.{sorted_up, count_sorted}
-use Rattle.lvs_entries.proofs.Members.{strict_from, rising_from}
+use Rattle.lvs_model.proofs.OrderLemmas.{sorted_up, count_sorted, strict_from, rising_from}
 
 abbrev pub id_of : Entry → ℕ
 id_of e = e.id

@@ -12,9 +12,8 @@ use Rattle.lvs_model.specs.Lookups.{has_key, has_entry_id, is_reply_of, entry_at
 use Rattle.lvs_entries.specs.Chains.{chain_of, key_chain, is_in_chain}
 use Rattle.lvs_entries.specs.Seen.{ChainSeen}
 use Rattle.lvs_entries.specs.Store.{Belongs, AreChained, IsStore, all_of, entries_in}
-use Rattle.lvs_entries.proofs.Order.{all_weaker}
+use Rattle.lvs_model.proofs.OrderLemmas.{all_weaker, filter_none, find_sorted, least_of, count_part}
 use Rattle.lvs_entries.proofs.Listed.{id_of}
-use Rattle.lvs_entries.proofs.Passing.{filter_none, find_sorted, least_of, count_part}
 use Rattle.lvs_entries.proofs.Chained.{OnlyIn, filter_at, chain_at, chains_fail}
 use Rattle.lvs_entries.proofs.Belonging.{key_only, reply_only, id_only, chain_only}
 

@@ -13,10 +13,9 @@ use Rattle.lvs_model.specs.Binding.{put_entry}
 use Rattle.lvs_entries.specs.Chains.{key_chain}
 use Rattle.lvs_entries.specs.Seen.{ChainSeen}
 use Rattle.lvs_entries.specs.Store.{Belongs, AreChained, IsStore, all_of, entries_in}
-use Rattle.lvs_entries.proofs.Order.{all_weaker, map_sorted}
+use Rattle.lvs_model.proofs.OrderLemmas.{all_weaker, map_sorted, find_sorted, update_is, count_map, found_holds, all_join}
 use Rattle.lvs_entries.proofs.Listed.{id_of, ids_once}
-use Rattle.lvs_entries.proofs.Passing.{find_sorted, update_is, count_map, found_holds}
-use Rattle.lvs_entries.proofs.Chained.{chain_at, chained_set, changed, changed_at, filter_at, all_join}
+use Rattle.lvs_entries.proofs.Chained.{chain_at, chained_set, changed, changed_at, filter_at}
 use Rattle.lvs_entries.proofs.Belonging.{id_only}
 use Rattle.lvs_entries.proofs.Kept.{room_write, room_at}
 

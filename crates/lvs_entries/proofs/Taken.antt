@@ -13,10 +13,8 @@ use Rattle.lvs_model.specs.Lookups.{has_key, has_entry_id}
 use Rattle.lvs_entries.specs.Seen.{ChainSeen}
 use Rattle.lvs_entries.specs.Store.{Belongs, IsStore, all_of, entries_in}
 use Rattle.lvs_entries.specs.Keyed.{IsTaken}
-use Rattle.lvs_entries.proofs.Order.{all_weaker, filter_sorted}
+use Rattle.lvs_model.proofs.OrderLemmas.{all_weaker, filter_sorted, sorted_moved, keep_all, none_counted, none_found}
 use Rattle.lvs_entries.proofs.Listed.{id_of}
-use Rattle.lvs_entries.proofs.Members.{sorted_moved}
-use Rattle.lvs_entries.proofs.Passing.{keep_all, none_counted, none_found}
 use Rattle.lvs_entries.proofs.Chained.{chain_at, chained_set, chained_moved}
 use Rattle.lvs_entries.proofs.Kept.{entries_without, store_without, room_write, room_at, places_kept}
 

@@ -3,8 +3,7 @@ use Rattle.std.proofs.Common.{◌≡◌, ℕ, ◌+◌, ◌<◌, List, None, arit
 use Rattle.std.specs.List.{AllByRecursion, find}
 use Rattle.std.proofs.lemmas.Bool.{ne_eqb}
 use Rattle.lvs_model.specs.Lists.{insert_by}
-use Rattle.lvs_entries.proofs.Order.{all_weaker, all_insert}
-use Rattle.lvs_entries.proofs.Passing.{find_none}
+use Rattle.lvs_model.proofs.OrderLemmas.{all_weaker, all_insert, find_none}
 use Rattle.lvs_timer.specs.declared.timer.Timer.{Timer}
 use Rattle.lvs_timer.specs.Timers.{has_id}
 

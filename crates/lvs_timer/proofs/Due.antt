@@ -4,9 +4,7 @@ use Rattle.std.specs.List.{filter}
 use Rattle.std.specs.List.Sorted.{IsPermutation, IsNonDecreasingBy, IsStrictlyIncreasing}
 use Rattle.std.proofs.lemmas.List.Sums.{sum_by-cons}
 use Rattle.lvs_model.specs.Lists.{sorted_by, insert_by}
-use Rattle.lvs_entries.proofs.Order.{filter_sorted, sorted_up, count_sorted}
-use Rattle.lvs_entries.proofs.Members.{sorted_once, strict_from, rising_from}
-use Rattle.lvs_entries.proofs.Passing.{count_filter}
+use Rattle.lvs_model.proofs.OrderLemmas.{filter_sorted, sorted_up, count_sorted, sorted_once, strict_from, rising_from, count_filter}
 use Rattle.lvs_timer.specs.declared.timer.Timer.{Timer}
 use Rattle.lvs_timer.specs.Timers.{has_id, ids_of, AreListed}
 use Rattle.lvs_timer.specs.Seen.{ShelfSeen}

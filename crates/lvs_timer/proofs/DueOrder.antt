@@ -5,9 +5,7 @@ use Rattle.std.proofs.lemmas.Bool.{leb-false, eqb-false, lt-leb, eq-eqb}
 use Rattle.std.proofs.lemmas.Bool.Decides.{nat_tests}
 use Rattle.std.proofs.lemmas.List.Elements.{filter-append}
 use Rattle.lvs_model.specs.Lists.{without}
-use Rattle.lvs_entries.proofs.Order.{all_weaker, all_filter}
-use Rattle.lvs_entries.proofs.Passing.{keep_all, none_counted, none_found, count_put, filter_none}
-use Rattle.lvs_entries.proofs.Chained.{join_front, join_back}
+use Rattle.lvs_model.proofs.OrderLemmas.{all_weaker, all_filter, keep_all, none_counted, none_found, count_put, filter_none, join_front, join_back}
 use Rattle.lvs_timer.specs.declared.timer.Timer.{Timer}
 use Rattle.lvs_timer.specs.Timers.{is_before, is_due, has_id}
 use Rattle.lvs_timer.specs.Shelves.{IsInOrder, Has}

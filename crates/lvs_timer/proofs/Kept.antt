@@ -5,10 +5,7 @@ use Rattle.std.proofs.lemmas.Bool.{eqb-true, eqb-false}
 use Rattle.std.proofs.lemmas.List.{length-set}
 use Rattle.std.proofs.lemmas.List.Sums.{length-filter}
 use Rattle.lvs_model.specs.Lists.{without, sorted_by, insert_by}
-use Rattle.lvs_entries.proofs.Order.{all_weaker, all_filter, filter_sorted, sorted_put}
-use Rattle.lvs_entries.proofs.Passing.{none_found, find_sorted, count_filter}
-use Rattle.lvs_entries.proofs.Chained.{join_front}
-use Rattle.lvs_entries.proofs.Entered.{put_once}
+use Rattle.lvs_model.proofs.OrderLemmas.{all_weaker, all_filter, filter_sorted, sorted_put, none_found, find_sorted, count_filter, join_front, put_once}
 use Rattle.lvs_timer.specs.declared.timer.Timer.{Timer}
 use Rattle.lvs_timer.specs.Timers.{has_id}
 use Rattle.lvs_timer.specs.Seen.{ShelfSeen}

@@ -3,9 +3,7 @@ use Rattle.std.proofs.Common.{◌≡◌, ℕ, ◌+◌, ◌<◌, ◌≤◌, ◌%�
 use Rattle.std.specs.List.{AllByRecursion, filter}
 use Rattle.std.proofs.lemmas.List.Elements.{filter-append}
 use Rattle.lvs_model.specs.Lists.{without}
-use Rattle.lvs_entries.proofs.Order.{all_weaker}
-use Rattle.lvs_entries.proofs.Passing.{filter_none, keep_all}
-use Rattle.lvs_entries.proofs.Chained.{all_join}
+use Rattle.lvs_model.proofs.OrderLemmas.{all_weaker, filter_none, keep_all, all_join}
 use Rattle.lvs_timer.specs.declared.timer.Timer.{Timer}
 use Rattle.lvs_timer.specs.Timers.{has_id}
 use Rattle.lvs_timer.specs.Seen.{ShelfSeen}

@@ -3,7 +3,7 @@ use Rattle.std.proofs.Common.{◌≡◌, ℕ, ◌+◌, ◌<◌, ◌≤◌, List,
 use Rattle.std.specs.List.{AllByRecursion}
 use Rattle.std.proofs.lemmas.List.{length-map}
 use Rattle.lvs_model.specs.Lists.{sorted_by}
-use Rattle.lvs_entries.proofs.Order.{all_weaker}
+use Rattle.lvs_model.proofs.OrderLemmas.{all_weaker}
 use Rattle.lvs_timer.specs.declared.timer.Timer.{Timer}
 use Rattle.lvs_timer.specs.Seen.{ShelfSeen}
 use Rattle.lvs_timer.specs.Shelves.{AreShelved, AreEmpty, HaveRoom, IsStore, lists_of, all_of, timers_in}

@@ -6,7 +6,7 @@ use Rattle.std.proofs.lemmas.Bool.{eqb-true, eq-eqb, ne_eqb}
 use Rattle.lvs_model.specs.Lists.{without}
 use Rattle.lvs_timer.specs.declared.timer.Timer.{Timer}
 use Rattle.lvs_timer.specs.Timers.{has_id, is_due, ids_of}
-use Rattle.lvs_entries.proofs.Order.{all_weaker, all_filter}
+use Rattle.lvs_model.proofs.OrderLemmas.{all_weaker, all_filter}
 use Rattle.lvs_times.specs.Numbered.{IsTimed, deadline_by}
 
 -- each number is below those after it

@@ -7,8 +7,7 @@ use Rattle.lvs_types.specs.declared.entry.Entry.{Entry}
 use Rattle.lvs_timer.specs.declared.timer.Timer.{Timer}
 use Rattle.lvs_model.specs.Lists.{insert_by}
 use Rattle.lvs_model.specs.Lookups.{has_key, has_entry_id, entry_at}
-use Rattle.lvs_entries.proofs.Order.{all_weaker, all_insert}
-use Rattle.lvs_entries.proofs.Passing.{find_none}
+use Rattle.lvs_model.proofs.OrderLemmas.{all_weaker, all_insert, find_none}
 use Rattle.lvs_entries.proofs.Belonging.{key_same}
 use Rattle.lvs_timer.specs.Timers.{has_id}
 use Rattle.lvs_times.specs.Numbered.{IsBelow, IsTimed, deadline_by}

@@ -4,7 +4,7 @@ use Rattle.lvs_model.specs.Lists.{sorted_by}
 use Rattle.lvs_entries.specs.Seen.{EntriesSeen}
 use Rattle.lvs_entries.specs.Store.{all_of}
 use Rattle.lvs_entries.proofs.Listed.{id_of, are_listed}
-use Rattle.lvs_entries.proofs.Members.{sorted_once}
+use Rattle.lvs_model.proofs.OrderLemmas.{sorted_once}
 use Rattle.lvs_entries.proofs.entries.Entries.all.Goals as goal
 
 sorted_is : goal.returns-clause-entries

@@ -1,7 +1,7 @@
 use Rattle.std.proofs.Common.{◌≡◌, ◌∙◌, ap, arith, count_by, List}
 use Rattle.std.specs.List.{filter}
 use Rattle.std.proofs.lemmas.List.Sorted.{IsNonDecreasingBy-from_sort}
-use Rattle.lvs_entries.proofs.Order.{count_sorted}
+use Rattle.lvs_model.proofs.OrderLemmas.{count_sorted}
 use Rattle.lvs_timer.specs.Timers.{is_due, ids_of}
 use Rattle.lvs_timer.specs.Seen.{TimersSeen, ShelfSeen}
 use Rattle.lvs_timer.specs.Shelves.{all_of}
