@@ -15,7 +15,9 @@ use Rattle.lvs_model.specs.State.{State}
 use Rattle.lvs_model.specs.Packets.{Packet, may_connect}
 use Rattle.lvs_model.specs.Rewriting.{is_too_long}
 use Rattle.lvs_model.specs.Persistence.{template_key, usable_server}
-use Rattle.lvs_model.specs.Incoming.{continue, end_entry, server_named, is_reused, is_trashed, arrive, take_back}
+use Rattle.lvs_model.specs.declared.incoming.Standing.{Standing}
+use Rattle.lvs_model.specs.declared.incoming.Standing.TheVariants.{Reused, ServerGone, InUse}
+use Rattle.lvs_model.specs.Incoming.{continue, end_entry, server_named, standing_of, arrive, take_back}
 use Rattle.lvs_model.specs.Binding.{try_binding, template_tried}
 use Rattle.lvs_model.specs.Lookups.{template_at, servers_of, find_service}
 use Rattle.lvs_flat.specs.TooLong.{says_too_long, exceeds_to, choice_in, exceeds_choice, exceeds_pick, exceeds_used, exceeds_template, exceeds_service, exceeds_admitted, exceeds_connection, exceeds_by}
@@ -61,22 +63,22 @@ admitted_short s p (Some service) true short = service_short s p service service
 connection_short : (s : State) (p : Packet) → IsShort p → exceeds_connection s p ≡ false
 connection_short s p short = admitted_short s p (find_service p.proto p.head.dst p.head.dport p.mark s.services) (may_connect s.settings p.proto p.head) short
 
-by_short : (reused trashed anew known : Bool) → anew ≡ false → known ≡ false → exceeds_by reused trashed anew known ≡ false
-by_short true trashed anew known a b = a
-by_short false true anew known a b = refl
-by_short false false anew known a b = b
+by_short : (standing : Standing) (anew known : Bool) → anew ≡ false → known ≡ false → exceeds_by standing anew known ≡ false
+by_short Reused anew known a b = a
+by_short ServerGone anew known a b = refl
+by_short InUse anew known a b = b
 
-continue_short : (s : State) (p : Packet) (e : Entry) (reused trashed : Bool) → IsShort p → says_too_long (continue s p e reused trashed).0 ≡ false
-continue_short s p e reused trashed short =
-    continue_told s p e reused trashed
-    ∙ by_short reused trashed (exceeds_connection (end_entry e s) p) (is_too_long p.head e.method) (connection_short (end_entry e s) p short) (fits p e.method short)
+continue_short : (s : State) (p : Packet) (e : Entry) (standing : Standing) → IsShort p → says_too_long (continue s p e standing).0 ≡ false
+continue_short s p e standing short =
+    continue_told s p e standing
+    ∙ by_short standing (exceeds_connection (end_entry e s) p) (is_too_long p.head e.method) (connection_short (end_entry e s) p short) (fits p e.method short)
 
 arrive_short : (s : State) (p : Packet) (o : Option Entry) → IsShort p → says_too_long (arrive s p o).0 ≡ false
 arrive_short s p None short = connect_told s p ∙ connection_short s p short
 arrive_short s p (Some e) short =
     let bound : Entry × State = try_binding s e e.server in
     let server = server_named bound.0.server bound.1.dests in
-    continue_short bound.1 p bound.0 (is_reused bound.1.settings p bound.0 server) (is_trashed server) short
+    continue_short bound.1 p bound.0 (standing_of bound.1.settings p bound.0 server) short
 
 -- nothing is taken back of a reply that doesn't say so
 pub taken_back_not : (s : State) (r : Reply) (t : State) → says_too_long r ≡ false → take_back s (r, t) ≡ (r, t)

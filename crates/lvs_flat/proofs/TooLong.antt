@@ -23,7 +23,9 @@ use Rattle.lvs_model.specs.Rewriting.{is_too_long, bytes_for}
 use Rattle.lvs_model.specs.Forwarding.{forwarded}
 use Rattle.lvs_model.specs.Scheduling.{connect_to, is_one_packet, port_at, take_pick, new_template, replace_template, with_cursor, pick_at, picked, schedule, use_template, persist_by, serve_packet, admit, connect, renewed}
 use Rattle.lvs_model.specs.Persistence.{template_key, takes_templates, usable, usable_server}
-use Rattle.lvs_model.specs.Incoming.{continue, continue_at, continue_bound, end_entry, server_named, is_reused, is_trashed, arrive}
+use Rattle.lvs_model.specs.declared.incoming.Standing.{Standing}
+use Rattle.lvs_model.specs.declared.incoming.Standing.TheVariants.{Reused, ServerGone, InUse}
+use Rattle.lvs_model.specs.Incoming.{continue, continue_at, continue_bound, end_entry, server_named, standing_of, arrive}
 use Rattle.lvs_model.specs.Binding.{try_binding, put_template, put_entry, bound_to, count_bound, count_ended, server_for_entry, template_tried, bind_template, binding_in, serves_at, template_service, bind_entry}
 use Rattle.lvs_model.specs.Lists.{without}
 use Rattle.lvs_model.specs.Lookups.{template_at, servers_of, find_service, entry_at, dest_at, has_dest_id, has_entry_id, is_server_of}
@@ -155,10 +157,10 @@ template_told view s p service t =
 
 -- A CONNECTION THAT IS THERE
 
-pub continue_told : (s : State) (p : Packet) (e : Entry) (reused trashed : Bool) → says_too_long (continue s p e reused trashed).0 ≡ exceeds_by reused trashed (exceeds_connection (end_entry e s) p) (is_too_long p.head e.method)
-continue_told s p e true trashed = connect_told (end_entry e s) p
-continue_told s p e false true = refl
-continue_told s p e false false = forwarded_told s p e.method e.daddr e.dport
+pub continue_told : (s : State) (p : Packet) (e : Entry) (standing : Standing) → says_too_long (continue s p e standing).0 ≡ exceeds_by standing (exceeds_connection (end_entry e s) p) (is_too_long p.head e.method)
+continue_told s p e Reused = connect_told (end_entry e s) p
+continue_told s p e ServerGone = refl
+continue_told s p e InUse = forwarded_told s p e.method e.daddr e.dport
 
 -- where the entry was bound, and its end leaves what the view shows
 bound_told : (s : State) (p : Packet) (es : List Entry) (ds : List Dest) (b : Bound) → without (has_entry_id b.entry.id) es ≡ without (has_entry_id b.entry.id) s.entries
@@ -166,12 +168,11 @@ bound_told : (s : State) (p : Packet) (es : List Entry) (ds : List Dest) (b : Bo
     → says_too_long (continue_at (record s { entries = es; dests = ds }) p b.entry b.server).0 ≡ exceeds_bound s p b
 bound_told s p es ds b entries dests =
     let left : List Entry = without (has_entry_id b.entry.id) s.entries in
-    let reused : Bool = is_reused s.settings p b.entry b.server in
-    let trashed : Bool = is_trashed b.server in
+    let standing : Standing = standing_of s.settings p b.entry b.server in
     let known : Bool = is_too_long p.head b.entry.method in
-    continue_told (record s { entries = es; dests = ds }) p b.entry reused trashed
-    ∙ ap (λ (later : List Entry). exceeds_by reused trashed (exceeds_connection (record s { entries = later; dests = count_ended b.entry.server later ds }) p) known) entries
-    ∙ ap (λ (later : List Dest). exceeds_by reused trashed (exceeds_connection (record s { entries = left; dests = later }) p) known) dests
+    continue_told (record s { entries = es; dests = ds }) p b.entry standing
+    ∙ ap (λ (later : List Entry). exceeds_by standing (exceeds_connection (record s { entries = later; dests = count_ended b.entry.server later ds }) p) known) entries
+    ∙ ap (λ (later : List Dest). exceeds_by standing (exceeds_connection (record s { entries = left; dests = later }) p) known) dests
 
 named_told : (s : State) (p : Packet) (e : Entry) (id : DestId) → AreApart s → e.server ≡ Some id → says_too_long (continue_bound p (e, s)).0 ≡ exceeds_bound s p (record { entry = e; server = dest_at id s.dests })
 named_told s p e id apart is =

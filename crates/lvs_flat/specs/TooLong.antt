@@ -21,7 +21,9 @@ use Rattle.lvs_model.specs.Packets.{Packet, may_connect}
 use Rattle.lvs_model.specs.Rewriting.{is_too_long}
 use Rattle.lvs_model.specs.Persistence.{template_key, usable_server}
 use Rattle.lvs_model.specs.Binding.{template_tried, server_for_entry, bound_to}
-use Rattle.lvs_model.specs.Incoming.{is_reused, is_trashed}
+use Rattle.lvs_model.specs.declared.incoming.Standing.{Standing}
+use Rattle.lvs_model.specs.declared.incoming.Standing.TheVariants.{Reused, ServerGone, InUse}
+use Rattle.lvs_model.specs.Incoming.{standing_of}
 use Rattle.lvs_model.specs.WellFormed.{entry_ids, dest_ids}
 use Rattle.lvs_flat.specs.declared.view.Overload.{Overload}
 use Rattle.lvs_flat.specs.declared.view.View.{View}
@@ -106,15 +108,15 @@ abbrev pub bound_in : State → Entry → Option DestId → Bound
 bound_in s e (Some id) = record { entry = e; server = dest_at id s.dests }
 bound_in s e None = bound_with s e (server_for_entry s.services s.dests e)
 
--- by whether the entry is reused, whether its server was removed, and whether a connection in its place is too long
-abbrev pub exceeds_by : Bool → Bool → Bool → Bool → Bool
-exceeds_by true trashed anew known = anew
-exceeds_by false true anew known = false
-exceeds_by false false anew known = known
+-- a connection in its place, or the entry itself
+abbrev pub exceeds_by : Standing → Bool → Bool → Bool
+exceeds_by Reused anew known = anew
+exceeds_by ServerGone anew known = false
+exceeds_by InUse anew known = known
 
 abbrev pub exceeds_bound : State → Packet → Bound → Bool
 exceeds_bound s p b =
-    exceeds_by (is_reused s.settings p b.entry b.server) (is_trashed b.server) (exceeds_connection (seen_in (view_after s b.entry b.server) s) p)
+    exceeds_by (standing_of s.settings p b.entry b.server) (exceeds_connection (seen_in (view_after s b.entry b.server) s) p)
     (is_too_long p.head b.entry.method)
 
 abbrev pub exceeds_arrived : State → Packet → Option Entry → Bool

@@ -7,7 +7,7 @@ ghost use Rattle.lvs_flat.specs.Arrivals.{packet_of, IsRead, ServesFor};
 ghost use Rattle.lvs_model.specs.Lookups.{entry_at};
 ghost use Rattle.lvs_model.specs.Packets.{key_of};
 ghost use Rattle.lvs_model.specs.Scheduling.{connect};
-ghost use Rattle.lvs_model.specs.Incoming.{end_entry, is_time_wait, is_quiet, is_trashed, server_named, is_reused, gone, continue, continue_at, continue_bound, arrive};
+ghost use Rattle.lvs_model.specs.Incoming.{end_entry, is_time_wait, is_quiet, is_trashed, server_named, is_reused, standing_of, gone, continue, continue_at, continue_bound, arrive};
 
 use crate::arrival::{Arrival, Rooms};
 use crate::binding::try_to_bind;
@@ -17,6 +17,7 @@ use crate::forwarding::forward_entry;
 use crate::packets::{is_syn, key_of_packet};
 use crate::serving::do_connect;
 use crate::tables::Tables;
+use lvs_model::incoming::Standing;
 use lvs_types::{Dest, DestId, DropCause, Entry, Reply, Settings, TcpState};
 
 /// The entry leaves, and its server's overload is looked at.
@@ -47,7 +48,7 @@ fn is_without_weight(server: Option<Dest>) -> bool
     }
 }
 
-pub(crate) fn is_in_trash(server: Option<Dest>) -> bool
+fn is_in_trash(server: Option<Dest>) -> bool
     ensures { result ≡ is_trashed server }
 {
     match server {
@@ -65,12 +66,29 @@ fn find_named(dests: &[Dest], server: Option<DestId>) -> Option<Dest>
     }
 }
 
-pub(crate) fn reuses(settings: &Settings, p: &Arrival<'_>, e: &Entry, server: Option<Dest>) -> bool
+fn reuses(settings: &Settings, p: &Arrival<'_>, e: &Entry, server: Option<Dest>) -> bool
     ensures { result ≡ is_reused settings.now (packet_of p.now) e.now server }
 {
     is_syn(p.proto, &p.head)
         && ((settings.reuse_mode == 1 && waits(e.state))
             || (0 < settings.expire_nodest && is_without_weight(server)))
+}
+
+pub(crate) fn standing_of(
+    settings: &Settings,
+    p: &Arrival<'_>,
+    e: &Entry,
+    server: Option<Dest>,
+) -> Standing
+    ensures { result ≡ standing_of settings.now (packet_of p.now) e.now server }
+{
+    if reuses(settings, p, e, server) {
+        Standing::Reused
+    } else if is_in_trash(server) {
+        Standing::ServerGone
+    } else {
+        Standing::InUse
+    }
 }
 
 fn do_gone(tables: &mut Tables, e: &Entry) -> Reply
@@ -93,7 +111,7 @@ fn do_reuse(tables: &mut Tables, p: &Arrival<'_>, e: &Entry, rooms: Rooms) -> Re
     do_connect(tables, p, rooms)
 }
 
-/// A packet whose entry is there, by whether the entry is reused, and whether its server was removed.
+/// A packet of a connection, by how the entry stands.
 fn do_continue(
     tables: &mut Tables,
     p: &Arrival<'_>,
@@ -107,13 +125,11 @@ fn do_continue(
     requires packets { HasFewPackets e.now }
     ensures { (result, state_of tables.new) ≡ continue_at (state_of tables.old) (packet_of p.now) e.now server }
 {
-    if reuses(&tables.settings, p, e, server) {
-        return do_reuse(tables, p, e, rooms);
+    match standing_of(&tables.settings, p, e, server) {
+        Standing::Reused => do_reuse(tables, p, e, rooms),
+        Standing::ServerGone => do_gone(tables, e),
+        Standing::InUse => forward_entry(tables, p, e, rooms.bytes),
     }
-    if is_in_trash(server) {
-        return do_gone(tables, e);
-    }
-    forward_entry(tables, p, e, rooms.bytes)
 }
 
 fn do_bound(tables: &mut Tables, p: &Arrival<'_>, e: Entry, rooms: Rooms) -> Reply

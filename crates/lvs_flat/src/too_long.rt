@@ -15,7 +15,7 @@ use crate::binding::{bound, find_for_entry, tried};
 use crate::dests::{find_id, find_nth, reaches, relieved};
 use crate::entries::find_key;
 use crate::forwarding::exceeds;
-use crate::incoming::{is_in_trash, reuses};
+use crate::incoming::standing_of;
 use crate::packets::{connects, key_of_packet};
 use crate::persistence::key_for;
 use crate::scheduling::choose;
@@ -24,6 +24,7 @@ use crate::serving::usable_now;
 use crate::tables::Tables;
 use crate::templates::find_key as find_template;
 use crate::view::{AS_THEY_ARE, Overload, View, count_active_in, count_inactive_in};
+use lvs_model::incoming::Standing;
 use lvs_types::{Cursor, Dest, DestId, Entry, Service, Template};
 
 /// Whether the packet would be too long for a tunnel to the server, if there is one.
@@ -217,11 +218,14 @@ fn exceeds_known(tables: &Tables, p: &Arrival<'_>, b: &Bound, lists: Lists) -> b
     requires lists { ServesAll lists tables.now }
     ensures { result ≡ exceeds_bound (state_of tables.now) (packet_of p.now) b.now }
 {
-    if reuses(&tables.settings, p, &b.entry, b.server) {
-        let view = without_entry(tables, &b.entry, b.server);
-        return exceeds_connected(tables, p, view, lists);
+    match standing_of(&tables.settings, p, &b.entry, b.server) {
+        Standing::Reused => {
+            let view = without_entry(tables, &b.entry, b.server);
+            exceeds_connected(tables, p, view, lists)
+        }
+        Standing::ServerGone => false,
+        Standing::InUse => exceeds(&p.head, b.entry.method),
     }
-    !is_in_trash(b.server) && exceeds(&p.head, b.entry.method)
 }
 
 fn exceeds_arriving(tables: &Tables, p: &Arrival<'_>, entry: Option<Entry>, lists: Lists) -> bool

@@ -18,6 +18,8 @@ use Rattle.lvs_model.specs.Packets.{Packet, key_of}
 use Rattle.lvs_model.specs.Binding.{put_entry}
 use Rattle.lvs_model.specs.Forwarding.{after_packet, state_after, in_state}
 use Rattle.lvs_model.specs.Scheduling.{connect}
+use Rattle.lvs_model.specs.declared.incoming.Standing.{Standing}
+use Rattle.lvs_model.specs.declared.incoming.Standing.TheVariants.{Reused, ServerGone, InUse}
 use Rattle.lvs_model.specs.Incoming.{end_entry, continue, arrive, take_back, incoming_packet, incoming_of, incoming_read}
 use Rattle.lvs_model.specs.Outgoing.{answer_out, outgoing_of, outgoing_read}
 use Rattle.lvs_well_formed.proofs.Lists.{all_filter}
@@ -31,7 +33,11 @@ use Rattle.lvs_laws.proofs.KeptConnects.{connect_same, met_same, try_kept, try_s
 
 -- A PACKET OF A CONNECTION
 
--- the entry ends, by whether it is reused and whether its server was removed
+-- how an entry stands, by whether it is reused and whether its server was removed
+abbrev pub stands_by : Bool → Bool → Standing
+stands_by reused trashed = cond reused Reused (cond trashed ServerGone InUse)
+
+-- the entry ends, by the same
 abbrev EndsBy : State → Bool → Bool → Type 0
 EndsBy s true trashed = Unit {0}
 EndsBy s false true = (s.settings.expire_nodest == 0) ≡ false
@@ -42,7 +48,7 @@ ended_by true s x e parts there found = kept_found ((x ≡ e) × (true ≡ false
 ended_by false s x e parts there found =
     kept_weaker (x ≡ e) ((x ≡ e) × (false ≡ false)) e (entry_of_id e.id (end_entry x s).entries) (λ one. (one, refl)) (ended_kept s.entries x e (entries_found s parts) there found)
 
-continue_kept : (s : State) (p : Packet) (x e : Entry) (reused trashed : Bool) → Parts s → IsEntryOf s x → IsEntryOf s e → IsKeptUnless ((x ≡ e) × EndsBy s reused trashed) e (entry_of_id e.id (continue s p x reused trashed).1.entries)
+continue_kept : (s : State) (p : Packet) (x e : Entry) (reused trashed : Bool) → Parts s → IsEntryOf s x → IsEntryOf s e → IsKeptUnless ((x ≡ e) × EndsBy s reused trashed) e (entry_of_id e.id (continue s p x (stands_by reused trashed)).1.entries)
 continue_kept s p x e true trashed parts there found =
     let left : State = end_entry x s in
     subst (IsKeptUnless ((x ≡ e) × Unit {0}) e) (sym (connect_same left p e.id (below_differs e.id s.next_entry (drawn_below s e parts found))))

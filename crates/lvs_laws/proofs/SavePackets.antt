@@ -30,7 +30,9 @@ use Rattle.lvs_model.specs.Packets.{Packet, key_of, may_connect}
 use Rattle.lvs_model.specs.Binding.{put_entry, put_template, count_bound, count_ended, bound_to, bind_entry, try_binding, server_for_entry, template_tried}
 use Rattle.lvs_model.specs.Persistence.{template_key, usable_server}
 use Rattle.lvs_model.specs.Scheduling.{new_entry, enter, is_one_packet, connect_to, with_cursor, new_template, replace_template, take_pick, pick_at, picked, schedule, renewed, use_template, persist_by, serve_packet, admit, connect}
-use Rattle.lvs_model.specs.Incoming.{end_entry, continue, arrive, take_back, incoming_packet, incoming_of, incoming_read, server_named, is_reused, is_trashed}
+use Rattle.lvs_model.specs.declared.incoming.Standing.{Standing}
+use Rattle.lvs_model.specs.declared.incoming.Standing.TheVariants.{Reused, ServerGone, InUse}
+use Rattle.lvs_model.specs.Incoming.{end_entry, continue, arrive, take_back, incoming_packet, incoming_of, incoming_read, server_named, standing_of}
 use Rattle.lvs_model.specs.Outgoing.{answer_out, outgoing_of, outgoing_read}
 use Rattle.lvs_model.specs.SyncRules.{accept, is_template_record}
 use Rattle.lvs_model.specs.Learning.{recorded_entry, add_entry, relearnt, goes_to_recorded, relearn, learn_connection, recorded_key, recorded_template_key, template_goes_to_recorded, relearn_template, learn_template, learn_item, learn_by, learn}
@@ -142,17 +144,17 @@ connect_keeps s p = admit_keeps s p (find_service p.proto p.head.dst p.head.dpor
 
 -- A PACKET
 
-continue_keeps : (s : State) (p : Packet) (e : Entry) (reused trashed : Bool) → Keeps s (continue s p e reused trashed).1
-continue_keeps s p e true trashed = λ are. connect_keeps (end_entry e s) p (end_keeps s e are)
-continue_keeps s p e false true = keeps_either (s.settings.expire_nodest == 0) s s (end_entry e s) (keeps_itself s) (end_keeps s e)
-continue_keeps s p e false false = keeps_itself s
+continue_keeps : (s : State) (p : Packet) (e : Entry) (standing : Standing) → Keeps s (continue s p e standing).1
+continue_keeps s p e Reused = λ are. connect_keeps (end_entry e s) p (end_keeps s e are)
+continue_keeps s p e ServerGone = keeps_either (s.settings.expire_nodest == 0) s s (end_entry e s) (keeps_itself s) (end_keeps s e)
+continue_keeps s p e InUse = keeps_itself s
 
 arrive_keeps : (s : State) (p : Packet) (o : Option Entry) → Keeps s (arrive s p o).1
 arrive_keeps s p None = connect_keeps s p
 arrive_keeps s p (Some e) =
     let bound : Entry × State = try_binding s e e.server in
     let server = server_named bound.0.server bound.1.dests in
-    λ are. continue_keeps bound.1 p bound.0 (is_reused bound.1.settings p bound.0 server) (is_trashed server) (try_keeps s e e.server are)
+    λ are. continue_keeps bound.1 p bound.0 (standing_of bound.1.settings p bound.0 server) (try_keeps s e e.server are)
 
 take_back_keeps : (s : State) (r : Reply) (t : State) → Keeps s t → Keeps s (take_back s (r, t)).1
 take_back_keeps s (reply.Drop drops.TooLong) t keeps = keeps_itself s

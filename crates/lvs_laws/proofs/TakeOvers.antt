@@ -44,6 +44,7 @@ use Rattle.lvs_well_formed.proofs.Steps.{step_well_formed, run_well_formed}
 use Rattle.lvs_laws.specs.Keeping.{IsSameConnection, IsKeptUnless, LeavesIn, entry_of_id, met, is_reused_by, is_at_removed, packet_of}
 use Rattle.lvs_laws.specs.TakingOver.{IsPlainPacketOf, IsSentOn, IsTakenOver, IsAsRecorded, IsThereAsRecorded, after_record}
 use Rattle.lvs_laws.proofs.KeptConnects.{met_same, try_kept}
+use Rattle.lvs_laws.proofs.KeptPackets.{stands_by}
 use Rattle.lvs_laws.proofs.KeptSteps.{run_kept}
 
 -- A PACKET OF A CONNECTION
@@ -68,7 +69,7 @@ forwarded_by s e head bytes false method local daddr dport long own here = (own,
 
 -- a packet that doesn't take up the entry's place, by whether the server was removed
 continue_sent : (s t : State) (mark : ℕ) (bytes : List ℕ) (head : Head) (proto : Proto) (e x : Entry) (trashed : Bool) → is_at_removed s e ≡ trashed → x.method ≡ (met s e).0.method → t.local ≡ s.local
-    → IsSentOn s e head bytes x.daddr x.dport (continue t (packet_of mark bytes head proto) x false trashed).0
+    → IsSentOn s e head bytes x.daddr x.dport (continue t (packet_of mark bytes head proto) x (stands_by false trashed)).0
 continue_sent s t mark bytes head proto e x true is own here = is
 continue_sent s t mark bytes head proto e x false is own here = forwarded_by s e head bytes (is_too_long head x.method) x.method t.local x.daddr x.dport refl own here
 
@@ -83,11 +84,11 @@ arrive_sent s mark bytes head proto e stays =
     let bound : Entry × State = met s e in
     let same = met_same s e in
     let sent = continue_sent s bound.1 mark bytes head proto e bound.0 (is_at_removed s e) refl refl (try_local s e e.server) in
-    let there : IsSentOn s e head bytes e.daddr e.dport (continue bound.1 p bound.0 false (is_at_removed s e)).0 =
-    subst (λ port. IsSentOn s e head bytes e.daddr port (continue bound.1 p bound.0 false (is_at_removed s e)).0) same.dport
-    (subst (λ addr. IsSentOn s e head bytes addr bound.0.dport (continue bound.1 p bound.0 false (is_at_removed s e)).0) same.daddr sent)
+    let there : IsSentOn s e head bytes e.daddr e.dport (continue bound.1 p bound.0 (stands_by false (is_at_removed s e))).0 =
+    subst (λ port. IsSentOn s e head bytes e.daddr port (continue bound.1 p bound.0 (stands_by false (is_at_removed s e))).0) same.dport
+    (subst (λ addr. IsSentOn s e head bytes addr bound.0.dport (continue bound.1 p bound.0 (stands_by false (is_at_removed s e))).0) same.daddr sent)
     in
-    subst (λ reused. IsSentOn s e head bytes e.daddr e.dport (continue bound.1 p bound.0 reused (is_at_removed s e)).0) (sym stays) there
+    subst (λ reused. IsSentOn s e head bytes e.daddr e.dport (continue bound.1 p bound.0 (stands_by reused (is_at_removed s e))).0) (sym stays) there
 
 packet_sent : (s : State) (mark : ℕ) (bytes : List ℕ) (head : Head) (proto : Proto) (e : Entry) (o : Option Entry) → o ≡ Some e → is_reused_by s e (packet_of mark bytes head proto) ≡ false
     → IsSentOn s e head bytes e.daddr e.dport (take_back s (arrive s (packet_of mark bytes head proto) o)).0

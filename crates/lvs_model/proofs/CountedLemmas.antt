@@ -24,6 +24,8 @@ use Rattle.lvs_model.specs.State.{State, initial}
 use Rattle.lvs_model.specs.Lists.{update_first, lower_of, least_by}
 use Rattle.lvs_model.specs.Messages.{HasOldFlags}
 use Rattle.lvs_model.specs.Binding.{put_entry, bind_entry, try_binding, server_for_entry, put_template, template_tried}
+use Rattle.lvs_model.specs.declared.incoming.Standing.{Standing}
+use Rattle.lvs_model.specs.declared.incoming.Standing.TheVariants.{Reused, ServerGone, InUse}
 use Rattle.lvs_model.specs.Incoming.{end_entry}
 use Rattle.lvs_model.specs.Forwarding.{after_packet, records_due, template_records, records_of_template, forward_known}
 use Rattle.lvs_model.specs.SyncRules.{due_for_sync, of_entry, accept, is_template_record}
@@ -45,7 +47,7 @@ use Rattle.lvs_types.specs.Thresholds.{has_bad_thresholds}
 use Rattle.lvs_model.specs.Reading.{read}
 use Rattle.lvs_model.specs.Scheduling.{enter, connect_to, is_one_packet, state_before, new_entry, take_pick, new_template, replace_template, with_cursor, pick_at, picked, schedule, use_template, try_template, persist_by, serve_packet, admit, connect, renewed}
 use Rattle.lvs_model.specs.Persistence.{template_key, usable_server}
-use Rattle.lvs_model.specs.Incoming.{continue, arrive, take_back, incoming_packet, incoming_of, incoming_read, server_named, is_reused, is_trashed}
+use Rattle.lvs_model.specs.Incoming.{continue, arrive, take_back, incoming_packet, incoming_of, incoming_read, server_named, standing_of}
 use Rattle.lvs_model.specs.Outgoing.{answer_out, outgoing_of, outgoing_read}
 use Rattle.lvs_model.specs.Packets.{key_of, may_connect}
 use Rattle.lvs_model.specs.Lookups.{entry_at, template_at, template_of_id, servers_of, find_service, reply_entry, has_key, is_reply_of, is_server_at}
@@ -306,11 +308,11 @@ gone_by : (n : ℕ) (b : Bool) (s t : State) → IsCounted n s → IsCounted n t
 gone_by n true s t c d = c
 gone_by n false s t c d = d
 
-continue_counted : (n : ℕ) (s : State) (p : Packet) (e : Entry) (reused trashed : Bool) → IsCounted n s → IsCountedEntry n e → IsCounted (n + 1) (continue s p e reused trashed).1
-continue_counted n s p e true trashed c few = connect_counted n (end_entry e s) p (end_counted n s e c)
-continue_counted n s p e false true c few =
+continue_counted : (n : ℕ) (s : State) (p : Packet) (e : Entry) (standing : Standing) → IsCounted n s → IsCountedEntry n e → IsCounted (n + 1) (continue s p e standing).1
+continue_counted n s p e Reused c few = connect_counted n (end_entry e s) p (end_counted n s e c)
+continue_counted n s p e ServerGone c few =
     counted_later n _ (gone_by n (s.settings.expire_nodest == 0) s (end_entry e s) c (end_counted n s e c))
-continue_counted n s p e false false c few = known_counted n s p e c few
+continue_counted n s p e InUse c few = known_counted n s p e c few
 
 arrive_counted : (n : ℕ) (s : State) (p : Packet) (o : Option Entry) → IsCounted n s → ((e : Entry) → o ≡ Some e → IsCountedEntry n e) → IsCounted (n + 1) (arrive s p o).1
 arrive_counted n s p None c few = connect_counted n s p c
@@ -319,7 +321,7 @@ arrive_counted n s p (Some e) c few =
     let now : IsCounted n bound.1 = try_counted n s e e.server c (few e refl) in
     let fewer : IsCountedEntry n bound.0 = try_few n s e e.server (few e refl) in
     let server = server_named bound.0.server bound.1.dests in
-    continue_counted n bound.1 p bound.0 (is_reused bound.1.settings p bound.0 server) (is_trashed server) now fewer
+    continue_counted n bound.1 p bound.0 (standing_of bound.1.settings p bound.0 server) now fewer
 
 take_back_counted : (n : ℕ) (s : State) (r : Reply) (t : State) → IsCounted n s → IsCounted n t → IsCounted n (take_back s (r, t)).1
 take_back_counted n s (reply.Drop drops.TooLong) t c d = c

@@ -13,6 +13,8 @@ use Rattle.lvs_types.specs.declared.reply.Reply.{Reply}
 use Rattle.lvs_types.specs.declared.reply.Reply.TheVariants as reply
 use Rattle.lvs_types.specs.declared.reply.DropCause.TheVariants as drops
 use Rattle.lvs_types.specs.Transport.{transport_of}
+use Rattle.lvs_model.specs.declared.incoming.Standing.{Standing}
+use Rattle.lvs_model.specs.declared.incoming.Standing.TheVariants.{Reused, ServerGone, InUse}
 use Rattle.lvs_model.specs.State.{State}
 use Rattle.lvs_model.specs.Lists.{without}
 use Rattle.lvs_model.specs.Lookups.{entry_at, dest_at, has_entry_id}
@@ -66,14 +68,17 @@ is_reused settings p e server =
 abbrev pub gone : State → Entry → Reply × State
 gone s e = (reply.Drop drops.Gone, if s.settings.expire_nodest == 0 then s else end_entry e s)
 
--- by whether the entry is reused, and whether its server was removed
-abbrev pub continue : State → Packet → Entry → Bool → Bool → Reply × State
-continue s p e true trashed = connect (end_entry e s) p
-continue s p e false true = gone s e
-continue s p e false false = forward_known s p e
+-- reuse comes first
+abbrev pub standing_of : Settings → Packet → Entry → Option Dest → Standing
+standing_of settings p e server = if is_reused settings p e server then Reused else if is_trashed server then ServerGone else InUse
+
+abbrev pub continue : State → Packet → Entry → Standing → Reply × State
+continue s p e Reused = connect (end_entry e s) p
+continue s p e ServerGone = gone s e
+continue s p e InUse = forward_known s p e
 
 abbrev pub continue_at : State → Packet → Entry → Option Dest → Reply × State
-continue_at s p e server = continue s p e (is_reused s.settings p e server) (is_trashed server)
+continue_at s p e server = continue s p e (standing_of s.settings p e server)
 
 -- a packet whose entry is there, after the entry's binding was tried
 abbrev pub continue_bound : Packet → Entry × State → Reply × State

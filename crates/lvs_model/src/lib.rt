@@ -3,6 +3,7 @@
 
 pub mod admin;
 pub mod capture;
+pub mod incoming;
 pub mod laws;
 mod numbers;
 pub mod script;

@@ -26,7 +26,9 @@ use Rattle.lvs_model.specs.Binding.{try_binding, put_template, template_tried}
 use Rattle.lvs_model.specs.Persistence.{template_key, usable_server}
 use Rattle.lvs_model.specs.Forwarding.{forwarded, forward_known}
 use Rattle.lvs_model.specs.Scheduling.{connect_to, enter, new_entry, port_at, is_one_packet, with_cursor, new_template, replace_template, take_pick, pick_at, picked, schedule, renewed, use_template, persist_by, serve_packet, admit, connect}
-use Rattle.lvs_model.specs.Incoming.{end_entry, gone, continue, arrive, take_back, incoming_packet, incoming_of, incoming_read, incoming, server_named, is_reused, is_trashed}
+use Rattle.lvs_model.specs.declared.incoming.Standing.{Standing}
+use Rattle.lvs_model.specs.declared.incoming.Standing.TheVariants.{Reused, ServerGone, InUse}
+use Rattle.lvs_model.specs.Incoming.{end_entry, gone, continue, arrive, take_back, incoming_packet, incoming_of, incoming_read, incoming, server_named, standing_of}
 use Rattle.lvs_model.specs.Outgoing.{answer_out, outgoing_of, outgoing_read, outgoing}
 use Rattle.lvs_well_formed.specs.Passing.{entry_of_head, entry_of_read, entry_of_packet, passed}
 
@@ -113,17 +115,17 @@ admit_leaves s p (Some service) true = serves s (serve_packet s p service servic
 pub connect_leaves : (s : State) (p : Packet) → Leaves s (connect s p)
 connect_leaves s p = admit_leaves s p (find_service p.proto p.head.dst p.head.dport p.mark s.services) (may_connect s.settings p.proto p.head)
 
-continue_leaves : (s : State) (p : Packet) (e : Entry) (reused trashed : Bool) → Leaves (end_entry e s) (continue s p e reused trashed)
-continue_leaves s p e true trashed = connect_leaves (end_entry e s) p
-continue_leaves s p e false true = serves (end_entry e s) (gone s e) refl
-continue_leaves s p e false false = serves (end_entry e s) (forward_known s p e) (forwarded_served s p e.method e.daddr e.dport)
+continue_leaves : (s : State) (p : Packet) (e : Entry) (standing : Standing) → Leaves (end_entry e s) (continue s p e standing)
+continue_leaves s p e Reused = connect_leaves (end_entry e s) p
+continue_leaves s p e ServerGone = serves (end_entry e s) (gone s e) refl
+continue_leaves s p e InUse = serves (end_entry e s) (forward_known s p e) (forwarded_served s p e.method e.daddr e.dport)
 
 arrive_leaves : (s : State) (p : Packet) (o : Option Entry) → Leaves (passed s o) (arrive s p o)
 arrive_leaves s p None = connect_leaves s p
 arrive_leaves s p (Some e) =
     let bound : Entry × State = try_binding s e e.server in
     let server = server_named bound.0.server bound.1.dests in
-    continue_leaves bound.1 p bound.0 (is_reused bound.1.settings p bound.0 server) (is_trashed server)
+    continue_leaves bound.1 p bound.0 (standing_of bound.1.settings p bound.0 server)
 
 take_back_leaves : (s left : State) (r : Reply) (t : State) → Leaves left (r, t) → Leaves left (take_back s (r, t))
 take_back_leaves s left (reply.Drop drops.TooLong) t leaves = serves left (reply.Drop drops.TooLong, s) refl

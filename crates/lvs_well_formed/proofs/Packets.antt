@@ -16,7 +16,9 @@ use Rattle.lvs_model.specs.Lookups.{entry_at, reply_entry, is_reply_of, has_entr
 use Rattle.lvs_model.specs.Packets.{Packet, key_of}
 use Rattle.lvs_model.specs.Binding.{try_binding}
 use Rattle.lvs_model.specs.Forwarding.{state_after, in_state}
-use Rattle.lvs_model.specs.Incoming.{end_entry, continue, arrive, take_back, incoming_packet, incoming_of, incoming_read, server_named, is_reused, is_trashed}
+use Rattle.lvs_model.specs.declared.incoming.Standing.{Standing}
+use Rattle.lvs_model.specs.declared.incoming.Standing.TheVariants.{Reused, ServerGone, InUse}
+use Rattle.lvs_model.specs.Incoming.{end_entry, continue, arrive, take_back, incoming_packet, incoming_of, incoming_read, server_named, standing_of}
 use Rattle.lvs_model.specs.Outgoing.{answer_out, outgoing_of, outgoing_read}
 use Rattle.lvs_well_formed.proofs.Lists.{all_filter}
 use Rattle.lvs_well_formed.proofs.Parts.{Parts, After, stays, then_after}
@@ -30,12 +32,12 @@ after_by : (b : Bool) (s t u : State) → After s t → After s u → After s (c
 after_by true s t u first second = first
 after_by false s t u first second = second
 
-continue_after : (s : State) (p : Packet) (e : Entry) (reused trashed : Bool) → IsEntryOf s e → e.key ≡ key_of p.proto p.head → Parts s → After s (continue s p e reused trashed).1
-continue_after s p e true trashed found key parts =
-    then_after s (end_entry e s) (continue s p e true trashed).1 (ended_after s e parts)
+continue_after : (s : State) (p : Packet) (e : Entry) (standing : Standing) → IsEntryOf s e → e.key ≡ key_of p.proto p.head → Parts s → After s (continue s p e standing).1
+continue_after s p e Reused found key parts =
+    then_after s (end_entry e s) (continue s p e Reused).1 (ended_after s e parts)
     (λ q. connect_after (end_entry e s) p (free_ended s e (key_of p.proto p.head) parts found key) q)
-continue_after s p e false true found key parts = after_by (s.settings.expire_nodest == 0) s s (end_entry e s) (stays s parts) (ended_after s e parts)
-continue_after s p e false false found key parts = known_after s p e found parts
+continue_after s p e ServerGone found key parts = after_by (s.settings.expire_nodest == 0) s s (end_entry e s) (stays s parts) (ended_after s e parts)
+continue_after s p e InUse found key parts = known_after s p e found parts
 
 arrive_after : (s : State) (p : Packet) (o : Option Entry) → entry_at (key_of p.proto p.head) s.entries ≡ o → Parts s → After s (arrive s p o).1
 arrive_after s p None found parts = connect_after s p (free_none s (key_of p.proto p.head) found) parts
@@ -45,7 +47,7 @@ arrive_after s p (Some e) found parts =
     let tried : IsTried s e bound.1 bound.0 = try_tried s e e.server (found_by_key s key e parts found) parts in
     let server = server_named bound.0.server bound.1.dests in
     then_after s bound.1 (arrive s p (Some e)).1 tried.after
-    (λ q. continue_after bound.1 p bound.0 (is_reused bound.1.settings p bound.0 server) (is_trashed server) tried.found (tried.key ∙ found_of_key s key e found) q)
+    (λ q. continue_after bound.1 p bound.0 (standing_of bound.1.settings p bound.0 server) tried.found (tried.key ∙ found_of_key s key e found) q)
 
 take_back_after : (s : State) (r : Reply) (t : State) → Parts s → After s t → After s (take_back s (r, t)).1
 take_back_after s (reply.Drop drops.TooLong) t parts after = stays s parts
