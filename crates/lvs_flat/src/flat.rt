@@ -27,7 +27,6 @@ use std::marker::Model;
 /// has taken.
 #[derive(Drop)]
 pub struct Flat {
-    alloc: Global,
     tables: Tables,
     steps: u64,
 }
@@ -78,7 +77,6 @@ impl Flat {
         ensures steps { IfOk result (λ f. f.steps ≡ 0) }
     {
         Ok(Flat {
-            alloc,
             tables: Tables::empty(alloc, local, buckets),
             steps: 0,
         })
@@ -92,23 +90,23 @@ impl Flat {
     }
 
     /// All that it keeps, in the order in which listings show it. Its state is well formed.
-    pub fn snapshot(&self) -> Result<Snapshot, NoMemory>
+    pub fn snapshot(&self, alloc: Global) -> Result<Snapshot, NoMemory>
         ensures shown { IfOk result (λ s. s ≡ snapshot_of self.now.state) }
         ensures well_formed { IsWellFormed self.now.state }
     {
-        show(self.alloc, &self.tables)
+        show(alloc, &self.tables)
     }
 
     /// Takes an item: the definition's reply, and the definition's next state. For want of memory
     /// everything is as before.
-    pub fn step(&mut self, item: &Item) -> Result<Reply, NoMemory>
+    pub fn step(&mut self, alloc: Global, item: &Item) -> Result<Reply, NoMemory>
         requires in_range { IsInRange item.now }
         requires young { self.old.steps < 2 ^ 62 }
         ensures ok { IfOk result (λ r. (r, self.new.state) ≡ step self.old.state item.now) }
         ensures steps { OnOk result (self.new.steps ≡ self.old.steps + 1) }
         ensures err { OnErr result (self.new ≡ self.old) }
     {
-        let reply = do_step(self.alloc, &mut self.tables, item)?;
+        let reply = do_step(alloc, &mut self.tables, item)?;
         self.steps += 1;
         Ok(reply)
     }

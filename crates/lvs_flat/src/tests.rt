@@ -714,11 +714,11 @@ const CORNERS: &[Course] = &[
     },
 ];
 
-fn step(flat: &mut Flat, item: &Item) -> Result<Says, NoMemory>
+fn step(alloc: Global, flat: &mut Flat, item: &Item) -> Result<Says, NoMemory>
     requires { IsInRange item.now }
 {
     if flat.steps() < 1000 {
-        Ok(said(&flat.step(item)?))
+        Ok(said(&flat.step(alloc, item)?))
     } else {
         Ok(Says::Other)
     }
@@ -735,7 +735,7 @@ fn first_other(alloc: Global, course: Course) -> Result<Option<(usize, Says)>, N
     )?;
     for (place, (given, says)) in course.steps.iter().enumerate() {
         let item = item(alloc, *given)?;
-        let answer = step(&mut flat, &item)?;
+        let answer = step(alloc, &mut flat, &item)?;
         if answer != *says {
             return Ok(Some((place, answer)));
         }
@@ -776,9 +776,9 @@ fn a_snapshot_shows_what_is_kept(rt: HostRuntime) -> Result<(), Fail> {
     ];
     for given in given {
         let item = item(rt.alloc(), given)?;
-        step(&mut flat, &item)?;
+        step(rt.alloc(), &mut flat, &item)?;
     }
-    let shown = flat.snapshot()?;
+    let shown = flat.snapshot(rt.alloc())?;
     let keys: [ServiceKey; 2] = [WEB, NAMES];
     assert_eq!(rt; shown.services.as_slice().len(), keys.len());
     let dests = shown.dests.as_slice();

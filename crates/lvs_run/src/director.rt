@@ -39,13 +39,13 @@ impl Director {
 
     /// Takes an item. Scripts name no item that the director can't take, and no script has so many
     /// that it couldn't count them.
-    pub(crate) fn step(&mut self, item: &Item) -> Result<Reply, NoMemory>
+    pub(crate) fn step(&mut self, alloc: Global, item: &Item) -> Result<Reply, NoMemory>
         requires in_range { IsInRange item.now }
         requires young { self.old.steps < 2 ^ 62 }
         ensures ok { IfOk result (λ reply. (reply, self.new.state) ≡ step self.old.state item.now) }
         ensures steps { OnOk result (self.new.steps ≡ self.old.steps + 1) }
     {
-        self.flat.step(item)
+        self.flat.step(alloc, item)
     }
 
     /// The listings of a round, of the director as it is now.
@@ -55,7 +55,7 @@ impl Director {
         if !has_listing(round) {
             return Ok(Listed::new(alloc));
         }
-        let tables = self.flat.snapshot()?;
+        let tables = self.flat.snapshot(alloc)?;
         let shown = show_lines(alloc, &tables, round.lines.as_slice())?;
         Ok(Listed::from_vec(shown))
     }
