@@ -1,8 +1,5 @@
 -- The director of the worked examples: an ordinary web service by NAT at 100 seconds, with two servers, a third one in the trash, and one connection.
-use Rattle.std.specs.Prelude.{ℕ, ◌+◌, Bool, true, false, [], ◌∷◌, Some, None}
-use Rattle.lvs_types.specs.declared.addr.Addr.{Addr}
-use Rattle.lvs_types.specs.declared.service.ServiceKey.{ServiceKey}
-use Rattle.lvs_types.specs.declared.service.ServiceKey.TheVariants.{Net}
+use Rattle.std.specs.Prelude.{ℕ, Bool, true, false, [], ◌∷◌, Some, None}
 use Rattle.lvs_types.specs.declared.service.Proto.TheVariants.{Tcp}
 use Rattle.lvs_types.specs.declared.service.Method.TheVariants.{Masq}
 use Rattle.lvs_types.specs.declared.service.Scheduler.TheVariants.{Wlc}
@@ -11,17 +8,7 @@ use Rattle.lvs_types.specs.declared.dest.Dest.{Dest}
 use Rattle.lvs_types.specs.declared.entry.TcpState.TheVariants.{Established}
 use Rattle.lvs_types.specs.declared.entry.Entry.{Entry}
 use Rattle.lvs_model.specs.State.{State, initial}
-
--- 10.0.0.1
-abbrev pub virtual_addr : Addr
-virtual_addr = record { number = 0x0A000001 }
-
--- 192.168.0.n
-abbrev pub server_addr : ℕ → Addr
-server_addr n = record { number = 0xC0A80000 + n }
-
-abbrev pub web : ServiceKey
-web = Net Tcp virtual_addr 80
+use Rattle.lvs_model.specs.ExampleItems.{virtual_addr, server_addr, web}
 
 abbrev pub web_service : Service
 web_service = record { key = web; scheduler = Wlc; persist = None; mask_bits = 32; one_packet = false; cursor = record { last = Some (record { 0 = 1 }); cw = 0 } }

@@ -1,5 +1,5 @@
 -- The servers of the worked examples of picks.
-use Rattle.std.specs.Prelude.{ℕ, true, false, Some, None}
+use Rattle.std.specs.Prelude.{ℕ, true, false, Some}
 use Rattle.lvs_types.specs.declared.dest.Candidate.{Candidate}
 use Rattle.lvs_types.specs.declared.service.Cursor.{Cursor}
 
@@ -18,7 +18,3 @@ closed id weight = record (idle id weight) { eligible = false }
 -- a cursor after the server of that id, with that number
 abbrev pub cursor_after : ℕ → ℕ → Cursor
 cursor_after id number = record { last = Some (record { 0 = id }); cw = number }
-
--- the cursor of a new service
-abbrev pub fresh : Cursor
-fresh = record { last = None; cw = 0 }

@@ -1,6 +1,7 @@
 use Rattle.std.proofs.Common.{true, refl, lit<, lit≤}
 use Rattle.lvs_listing.specs.Savable.{IsSayableServer}
-use Rattle.lvs_listing.specs.ExampleState.{web, web_server}
+use Rattle.lvs_model.specs.ExampleItems.{web}
+use Rattle.lvs_listing.specs.ExampleState.{web_server}
 use Rattle.lvs_listing.proofs.worked_examples.tables_that_come_back.Goals as goal
 
 first_server : IsSayableServer web (web_server 1 2 true).spec
