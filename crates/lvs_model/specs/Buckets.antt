@@ -1,6 +1,8 @@
 -- Buckets: which entries are in one, which one an item is of, what the item finds there, and what a change makes of it (this project's profile).
 use Rattle.std.specs.Prelude.{ℕ, ◌≡◌, ◌<◌, Bool, true, false, ◌==◌, List, [], ◌∷◌, ◌++◌, Option, Some, None, is_some, Result, Ok, Err, if◌then◌else◌, nat_le, nat_lt}
 use Rattle.std.specs.List.{filter, find, AllByRecursion}
+use Rattle.lvs_types.specs.Transport.{transport_of}
+use Rattle.lvs_types.specs.Protocols.{proto_code, proto_of_code}
 use Rattle.lvs_types.specs.declared.head.Head.{Head}
 use Rattle.lvs_types.specs.declared.head.Malformed.{Malformed}
 use Rattle.lvs_types.specs.declared.service.Proto.{Proto}
@@ -16,14 +18,13 @@ use Rattle.lvs_types.specs.declared.bucket.Found.TheVariants as found
 use Rattle.lvs_types.specs.declared.bucket.Change.{Change}
 use Rattle.lvs_types.specs.declared.bucket.Change.TheVariants as changes
 use Rattle.lvs_model.specs.State.{State}
-use Rattle.lvs_model.specs.Same.{proto_code}
 use Rattle.lvs_model.specs.Lists.{without}
 use Rattle.lvs_model.specs.Reading.{read}
 use Rattle.lvs_model.specs.Numbers.{bucket_of}
 use Rattle.lvs_model.specs.Lookups.{has_key, has_entry_id, entry_at, reply_entry}
 use Rattle.lvs_model.specs.SyncRules.{is_template_record}
-use Rattle.lvs_model.specs.Binding.{proto_of_code, put_entry}
-use Rattle.lvs_model.specs.Packets.{transport_of, key_of}
+use Rattle.lvs_model.specs.Binding.{put_entry}
+use Rattle.lvs_model.specs.Packets.{key_of}
 use Rattle.lvs_model.specs.Learning.{recorded_key}
 use Rattle.lvs_model.specs.Clock.{entry_bucket}
 use Rattle.lvs_model.specs.Step.{step}

@@ -8,6 +8,7 @@
 use Rattle.std.specs.Prelude.{ℕ, ◌+◌, Bool, true, false, not, ◌&&◌, ◌||◌, ◌==◌, List, [], ◌∷◌, ◌++◌, length, take, drop, slice_index, if◌then◌else◌, nat_le, Option, Some, None, Result, Ok, Err, codes}
 use Rattle.std.specs.List.{list_any}
 use Rattle.hex.specs.Hex.{encode_lower}
+use Rattle.lvs_types.specs.Protocols.{proto_of_code}
 use Rattle.lvs_types.specs.declared.addr.Addr.{Addr}
 use Rattle.lvs_types.specs.declared.addr.DestId.{DestId}
 use Rattle.lvs_types.specs.declared.head.Head.{Head}
@@ -28,7 +29,6 @@ use Rattle.lvs_model.specs.Fields.{word_at, addr_at}
 use Rattle.lvs_model.specs.Reading.{read, version_of, header_len_of, code_of, fragment_offset}
 use Rattle.lvs_model.specs.Rewriting.{with_word, with_number, with_header_sum}
 use Rattle.lvs_model.specs.Same.{dest_eq}
-use Rattle.lvs_model.specs.Binding.{proto_of_code}
 use Rattle.lvs_model.specs.Lookups.{entry_at, reply_entry}
 use Rattle.lvs_model.specs.Report.{addr_text, malformed_text}
 
