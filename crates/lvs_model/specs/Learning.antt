@@ -1,5 +1,5 @@
 -- A record of a sync message arrives (the connection synchronisation protocol; what a record makes of the tables is this project's profile).
-use Rattle.std.specs.Prelude.{ℕ, ◌+◌, ◌%◌, Bool, true, false, ◌&&◌, ◌==◌, List, [], ◌∷◌, ◌++◌, Option, Some, None, if◌then◌else◌}
+use Rattle.std.specs.Prelude.{ℕ, ◌+◌, ◌%◌, Bool, true, false, ◌&&◌, ◌==◌, [], ◌∷◌, ◌++◌, Option, Some, None, if◌then◌else◌}
 use Rattle.std.specs.Option.{unwrap_or}
 use Rattle.lvs_types.specs.declared.service.Proto.{Proto}
 use Rattle.lvs_types.specs.declared.service.Proto.TheVariants.{Tcp, Udp}

@@ -69,3 +69,4 @@ pub mod Summaries
 pub mod ExampleBooks
 pub mod Checking
 pub mod ExampleReports
+pub mod Tasks

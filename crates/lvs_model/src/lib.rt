@@ -7,6 +7,7 @@ pub mod incoming;
 pub mod laws;
 mod numbers;
 pub mod script;
+pub mod task;
 pub mod worked_examples;
 
 pub use numbers::{bucket_of, mix, worker_of};

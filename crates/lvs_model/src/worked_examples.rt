@@ -18,4 +18,5 @@ pub mod report;
 pub mod rewriting;
 pub mod scripts;
 pub mod states;
+pub mod tasks;
 pub mod words;
