@@ -67,6 +67,7 @@ pub mod Inputs
 pub mod Verdicts
 pub mod Summaries
 pub mod ExampleBooks
+pub mod Progress
 pub mod Checking
 pub mod ExampleReports
 pub mod Tasks

@@ -1,6 +1,15 @@
 //! Worked examples: which reports are legal, and the first line at which another one isn't.
-ghost use Rattle.std.specs.Prelude.{◌≡◌, [], ◌∷◌, ◌++◌, codes};
+ghost use Rattle.std.specs.Prelude.{◌≡◌, ℕ, [], ◌∷◌, ◌++◌, true, false, codes};
+ghost use Rattle.std.specs.List.{join_with_byte};
+ghost use Rattle.lvs_types.specs.declared.book.Noted.{Noted};
+ghost use Rattle.lvs_types.specs.declared.book.RoundBook.{RoundBook};
+ghost use Rattle.lvs_types.specs.declared.book.Shown.{Shown};
 ghost use Rattle.lvs_types.specs.declared.report.Verdict.TheVariants as verdict;
+ghost use Rattle.lvs_model.specs.State.{State};
+ghost use Rattle.lvs_model.specs.Report as report;
+ghost use Rattle.lvs_model.specs.Report.{is_printed, act_line, head_text, shown_name};
+ghost use Rattle.lvs_model.specs.Listings as listings;
+ghost use Rattle.lvs_model.specs.Progress.{head_words, act_words, listing_lines};
 ghost use Rattle.lvs_model.specs.Checking.{judgement};
 ghost use Rattle.lvs_model.specs.ExampleBooks.{text_of_lines};
 ghost use Rattle.lvs_model.specs.ExampleReports.{one_round, three_syns, two_strangers, web_tables, web_head, due_connection, connected, first_syn, second_syn, third_syn};
@@ -72,9 +81,19 @@ pub fn heads_in_order()
 pub fn the_clock()
     ensures legal { judgement due_connection (text_of_lines (connected ++ codes "round 1 at 60 workers 1 buckets 1" ∷ codes "0 0.0 swept 1" ∷ codes "2 1.0 ok" ∷ [])) ≡ verdict.Legal }
     ensures skipped { judgement due_connection (text_of_lines (connected ++ codes "round 1 at 60 workers 1 buckets 1" ∷ codes "2 1.0 ok" ∷ [])) ≡ verdict.Illegal 6 (codes "0 0.0 swept 1") (codes "2 1.0 ok") }
+    ensures before_order { judgement due_connection (text_of_lines (connected ++ codes "round 1 at 60 workers 1 buckets 1" ∷ codes "1 1.1 ok" ∷ [])) ≡ verdict.Illegal 6 (codes "0 0.0 swept 1") (codes "1 1.1 ok") }
     ensures left { judgement due_connection (text_of_lines (connected ++ codes "round 1 at 60 workers 1 buckets 1" ∷ [])) ≡ verdict.Illegal 6 (codes "0 0.0 swept 1") [] }
     ensures released { judgement due_connection (text_of_lines (connected ++ codes "round 1 at 60 workers 1 buckets 1" ∷ codes "0 1.0 ok" ∷ codes "1 0.0 swept 1" ∷ codes "2 0.1 reaped 0 0 1" ∷ [])) ≡ verdict.Legal }
     ensures silent { judgement (one_round 5 []) (text_of_lines (web_head ∷ codes "0 0.0 swept 0" ∷ [])) ≡ verdict.Illegal 2 [] (codes "0 0.0 swept 0") }
     ensures silent_behind { judgement (one_round 5 []) (text_of_lines (web_head ∷ codes "1 0.1 pass" ∷ [])) ≡ verdict.Illegal 2 [] (codes "1 0.1 pass") }
     ensures not_next { judgement (one_round 5 []) (text_of_lines (web_head ∷ codes "0 0.1 reaped 0 0 0" ∷ [])) ≡ verdict.Unreadable 2 }
+{}
+
+/// The lines that are compared are those of the report's text: heads, acts that have a line, and
+/// listings up to their `end`.
+pub fn the_lines_of_a_report()
+    ensures head { (book : RoundBook) → head_words book.number book.moment (record { workers = book.workers; buckets = book.buckets }) ++ 10 ∷ [] ≡ head_text book }
+    ensures printed { (place : ℕ) (act : Noted) → is_printed act.reply ≡ true → act_words place act.actor act.number act.reply ++ 10 ∷ [] ≡ act_line place act }
+    ensures not_printed { (place : ℕ) (act : Noted) → is_printed act.reply ≡ false → act_words place act.actor act.number act.reply ≡ [] }
+    ensures listing { (s : State) (kind : Shown) → shown_name kind ++ 10 ∷ [] ++ join_with_byte 10 (listing_lines s kind) ++ 10 ∷ [] ≡ report.shown_text (listings.shown_text s kind) }
 {}

@@ -74,7 +74,7 @@ pub fn ten_clients()
     ensures { summary_with 3 20 20 10 (four_servers 3 3 2 2) ≡ text_of_lines (codes "rounds 3" ∷ codes "packets 20" ∷ codes "forwarded 20" ∷ codes "entries 10" ∷ codes "server 192.168.0.1:80 active 3 inactive 0" ∷ codes "server 192.168.0.2:80 active 3 inactive 0" ∷ codes "server 192.168.0.3:80 active 2 inactive 0" ∷ codes "server 192.168.0.4:80 active 2 inactive 0" ∷ []) }
 {}
 
-/// The summary of one client, whose two packets go to the first server: computed from its rounds.
-pub fn one_client()
-    ensures { let played = serial_books 0 (initial demo_local 1) (generated 1).rounds in summary_text played.0 (snapshot_of played.1) ≡ text_of_lines (codes "rounds 3" ∷ codes "packets 2" ∷ codes "forwarded 2" ∷ codes "entries 1" ∷ codes "server 192.168.0.1:80 active 1 inactive 0" ∷ codes "server 192.168.0.2:80 active 0 inactive 0" ∷ codes "server 192.168.0.3:80 active 0 inactive 0" ∷ codes "server 192.168.0.4:80 active 0 inactive 0" ∷ []) }
+/// The summary of two clients, whose packets go to the first two servers: computed from its rounds.
+pub fn two_clients()
+    ensures { let played = serial_books 0 (initial demo_local 1) (generated 2).rounds in summary_text played.0 (snapshot_of played.1) ≡ text_of_lines (codes "rounds 3" ∷ codes "packets 4" ∷ codes "forwarded 4" ∷ codes "entries 2" ∷ codes "server 192.168.0.1:80 active 1 inactive 0" ∷ codes "server 192.168.0.2:80 active 1 inactive 0" ∷ codes "server 192.168.0.3:80 active 0 inactive 0" ∷ codes "server 192.168.0.4:80 active 0 inactive 0" ∷ []) }
 {}

@@ -12,6 +12,10 @@ pub returns-clause-skipped : goal.returns-clause-skipped
 unfolding digits encode_with key_text options_text mask_text persist_text flag_text
 returns-clause-skipped c = refl
 
+pub returns-clause-before_order : goal.returns-clause-before_order
+unfolding digits encode_with key_text options_text mask_text persist_text flag_text
+returns-clause-before_order c = refl
+
 pub returns-clause-left : goal.returns-clause-left
 unfolding digits encode_with key_text options_text mask_text persist_text flag_text
 returns-clause-left c = refl
