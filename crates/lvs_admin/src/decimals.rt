@@ -5,7 +5,7 @@ ghost use Rattle.std.specs.List.{position, list_all};
 ghost use Rattle.std.specs.Char.{is_ascii_digit};
 ghost use Rattle.lvs_model.specs.Decimals.{value_after, is_number, number_of, number_between, cut_at, addr_of, port_of, endpoint_of, is_mask, mask_bits_of, mask_of};
 
-use lvs_model::admin::Endpoint;
+use lvs_model::admin::GivenEndpoint;
 use lvs_types::Addr;
 
 /// Whether a word is decimal digits alone, at least one.
@@ -107,18 +107,18 @@ fn read_port(word: &[u8]) -> Option<u16>
 }
 
 /// ADDR or ADDR:PORT.
-pub(crate) fn read_endpoint(word: &[u8]) -> Option<Endpoint>
+pub(crate) fn read_endpoint(word: &[u8]) -> Option<GivenEndpoint>
     ensures { result ≡ endpoint_of word.now }
 {
     match cut(word, b':') {
         None => {
             let addr = read_addr(word)?;
-            Some(Endpoint { addr, port: None })
+            Some(GivenEndpoint { addr, port: None })
         }
         Some((addr, port)) => {
             let addr = read_addr(addr)?;
             let port = read_port(port)?;
-            Some(Endpoint {
+            Some(GivenEndpoint {
                 addr,
                 port: Some(port),
             })

@@ -1,13 +1,13 @@
 //! Whether an option was given before.
 ghost use Rattle.std.specs.Prelude.{◌≡◌};
-ghost use Rattle.lvs_model.specs.AdminWords.{is_tcp, is_udp, is_mark, has_service, has_method, is_service_option, is_method_option, is_given, is_second};
+ghost use Rattle.lvs_model.specs.AdminWords.{is_tcp_service, is_udp_service, is_mark, has_service, has_method, is_service_option, is_method_option, is_given, is_second};
 
 use lvs_model::admin::{GivenService, OptionName, WordsRead};
 use lvs_types::{Method, Proto, ServiceKey};
 
 /// Whether the service was given by `-t`.
-fn is_tcp(service: Option<GivenService>) -> bool
-    ensures { result ≡ has_service is_tcp service }
+fn is_tcp_service(service: Option<GivenService>) -> bool
+    ensures { result ≡ has_service is_tcp_service service }
 {
     match service {
         None => false,
@@ -22,8 +22,8 @@ fn is_tcp(service: Option<GivenService>) -> bool
 }
 
 /// Whether the service was given by `-u`.
-fn is_udp(service: Option<GivenService>) -> bool
-    ensures { result ≡ has_service is_udp service }
+fn is_udp_service(service: Option<GivenService>) -> bool
+    ensures { result ≡ has_service is_udp_service service }
 {
     match service {
         None => false,
@@ -77,8 +77,8 @@ pub(crate) fn is_given(read: &WordsRead, option: OptionName) -> bool
     ensures { result ≡ is_given read.now option }
 {
     match option {
-        OptionName::TcpService => is_tcp(read.service),
-        OptionName::UdpService => is_udp(read.service),
+        OptionName::TcpService => is_tcp_service(read.service),
+        OptionName::UdpService => is_udp_service(read.service),
         OptionName::FwmarkService => is_mark(read.service),
         OptionName::Scheduling => read.scheduler.is_some(),
         OptionName::Persistent => read.persist.is_some(),

@@ -2,12 +2,12 @@
 ghost use Rattle.std.specs.Prelude.{◌≡◌};
 ghost use Rattle.lvs_types.specs.declared.script.WordsCause.TheVariants as cause;
 ghost use Rattle.lvs_model.specs.Refusals.{needed, forbidden};
-ghost use Rattle.lvs_model.specs.AdminWords.{is_tcp};
+ghost use Rattle.lvs_model.specs.AdminWords.{is_tcp_service};
 ghost use Rattle.lvs_model.specs.AdminLines.{is_settled, settled, checked_mask, checked_one_packet, is_portless, checked_port, service_of, read_service, service_port, server_port, server_of, read_server, server_removed, daemon_started, daemon_stopped, listing_of, line_read};
 
 use crate::refused::bad;
 use lvs_model::admin::{
-    Awaited, BadWord, CommandName, DaemonRole, Endpoint, GivenService, OptionName, WordsRead,
+    Awaited, BadWord, CommandName, DaemonRole, GivenEndpoint, GivenService, OptionName, WordsRead,
 };
 use lvs_types::{
     Command, Cursor, DestSpec, Line, Method, Proto, Scheduler, Service, ServiceKey, Shown,
@@ -56,8 +56,8 @@ fn check_mask(read: &WordsRead) -> Result<(), BadWord>
     }
 }
 
-fn is_tcp(key: ServiceKey) -> bool
-    ensures { result ≡ is_tcp key }
+fn is_tcp_service(key: ServiceKey) -> bool
+    ensures { result ≡ is_tcp_service key }
 {
     match key {
         ServiceKey::Net {
@@ -76,7 +76,7 @@ fn is_tcp(key: ServiceKey) -> bool
 fn check_one_packet(service: &GivenService, read: &WordsRead) -> Result<(), BadWord>
     ensures { result ≡ checked_one_packet service.now read.now }
 {
-    if is_tcp(service.key) {
+    if is_tcp_service(service.key) {
         forbid(read.one_packet_at)
     } else {
         Ok(())
@@ -125,7 +125,7 @@ fn need_service(count: usize, read: &WordsRead) -> Result<GivenService, BadWord>
 }
 
 /// The value of `-r`, where one is required.
-fn need_server(count: usize, read: &WordsRead) -> Result<Endpoint, BadWord>
+fn need_server(count: usize, read: &WordsRead) -> Result<GivenEndpoint, BadWord>
     ensures { result ≡ needed count cause.Missing read.now.server }
 {
     read.server.ok_or(bad(count, WordsCause::Missing))
@@ -169,7 +169,7 @@ fn server_port(method: Method, key: ServiceKey, port: Option<u16>) -> u16
 }
 
 /// The server of `-a` and `-e`, with the defaults of what wasn't given.
-fn server_of(method: Method, key: ServiceKey, endpoint: Endpoint, read: &WordsRead) -> DestSpec
+fn server_of(method: Method, key: ServiceKey, endpoint: GivenEndpoint, read: &WordsRead) -> DestSpec
     ensures { result ≡ server_of method key endpoint read.now }
 {
     DestSpec {

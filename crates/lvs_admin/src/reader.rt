@@ -1,6 +1,6 @@
 //! Reading words one after the other.
 ghost use Rattle.std.specs.Prelude.{◌≡◌};
-ghost use Rattle.lvs_model.specs.AdminWords.{is_dashed, with_option, take_known, take_option, service_at, take_value, take_timeout, take_awaited, take_word, begun};
+ghost use Rattle.lvs_model.specs.AdminWords.{is_dashed, with_option, take_known, take_option, service_key_of, take_value, take_timeout, take_awaited, take_word, begun};
 ghost use Rattle.lvs_admin.specs.Answers.{read_or_refused};
 
 use crate::decimals::is_number;
@@ -9,7 +9,7 @@ use crate::refused::bad;
 use crate::tables::{allows, awaited_after, command_of, option_of};
 use crate::values::{endpoint, mask, number, role, scheduler, sync_id};
 use lvs_model::admin::{
-    Awaited, BadWord, CommandName, Endpoint, GivenService, OptionName, WordsRead,
+    Awaited, BadWord, CommandName, GivenEndpoint, GivenService, OptionName, WordsRead,
 };
 use lvs_types::{Method, Proto, ServiceKey, WordsCause};
 
@@ -28,8 +28,8 @@ pub(crate) struct Reader {
     pub(crate) read: WordsRead,
 }
 
-fn service_at(proto: Proto, endpoint: Endpoint) -> ServiceKey
-    ensures { result ≡ service_at proto endpoint }
+fn service_key_of(proto: Proto, endpoint: GivenEndpoint) -> ServiceKey
+    ensures { result ≡ service_key_of proto endpoint }
 {
     ServiceKey::Net {
         proto,
@@ -143,10 +143,10 @@ impl Reader {
     {
         match option {
             OptionName::TcpService => {
-                self.set_service(at, service_at(Proto::Tcp, endpoint(at, word)?));
+                self.set_service(at, service_key_of(Proto::Tcp, endpoint(at, word)?));
             }
             OptionName::UdpService => {
-                self.set_service(at, service_at(Proto::Udp, endpoint(at, word)?));
+                self.set_service(at, service_key_of(Proto::Udp, endpoint(at, word)?));
             }
             OptionName::FwmarkService => {
                 self.set_service(at, ServiceKey::Mark(number(at, 1, u32::MAX, word)?));

@@ -9,7 +9,7 @@ ghost use Rattle.lvs_model.specs.AdminWords.{role_of};
 use crate::decimals::{read_between, read_endpoint, read_mask};
 use crate::refused::bad;
 use crate::tables::is_name;
-use lvs_model::admin::{BadWord, DaemonRole, Endpoint};
+use lvs_model::admin::{BadWord, DaemonRole, GivenEndpoint};
 use lvs_types::{Scheduler, WordsCause};
 
 /// A number of 1 to 10 digits.
@@ -30,7 +30,7 @@ pub(crate) fn sync_id(at: usize, word: &[u8]) -> Result<u8, BadWord>
 }
 
 /// ADDR or ADDR:PORT.
-pub(crate) fn endpoint(at: usize, word: &[u8]) -> Result<Endpoint, BadWord>
+pub(crate) fn endpoint(at: usize, word: &[u8]) -> Result<GivenEndpoint, BadWord>
     ensures { result ≡ needed at cause.BadAddress (endpoint_of word.now) }
 {
     read_endpoint(word).ok_or(bad(at, WordsCause::BadAddress))

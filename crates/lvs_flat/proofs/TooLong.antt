@@ -21,7 +21,7 @@ use Rattle.lvs_model.specs.State.{State}
 use Rattle.lvs_model.specs.Packets.{Packet, may_connect}
 use Rattle.lvs_model.specs.Rewriting.{is_too_long, bytes_for}
 use Rattle.lvs_model.specs.Forwarding.{forwarded}
-use Rattle.lvs_model.specs.Scheduling.{connect_to, is_one_packet, port_at, take_pick, new_template, replace_template, with_cursor, pick_at, picked, schedule, use_template, persist_by, serve_packet, admit, connect, renewed}
+use Rattle.lvs_model.specs.Scheduling.{connect_to, is_one_packet, connection_port, take_pick, new_template, replace_template, with_cursor, pick_at, picked, schedule, use_template, persist_by, serve_packet, admit, connect, renewed}
 use Rattle.lvs_model.specs.Persistence.{template_key, takes_templates, usable, usable_server}
 use Rattle.lvs_model.specs.declared.incoming.Standing.{Standing}
 use Rattle.lvs_model.specs.declared.incoming.Standing.TheVariants.{Reused, ServerGone, InUse}
@@ -34,7 +34,7 @@ use Rattle.lvs_flat.specs.declared.view.Overload.{Overload}
 use Rattle.lvs_flat.specs.declared.view.View.{View}
 use Rattle.lvs_flat.specs.declared.too_long.Bound.{Bound}
 use Rattle.lvs_flat.specs.Views.{dest_in, dests_in, seen_in}
-use Rattle.lvs_flat.specs.TooLong.{says_too_long, AreApart, exceeds_to, choice_in, exceeds_choice, exceeds_pick, exceeds_used, exceeds_template, exceeds_service, exceeds_admitted, exceeds_connection, overload_left, dest_bound, bound_with, bound_in, exceeds_by, exceeds_bound, exceeds_arrived}
+use Rattle.lvs_flat.specs.TooLong.{says_too_long, HaveDistinctIds, exceeds_to, choice_in, exceeds_choice, exceeds_pick, exceeds_used, exceeds_template, exceeds_service, exceeds_admitted, exceeds_connection, overload_left, dest_bound, bound_with, bound_in, exceeds_by, exceeds_bound, exceeds_arrived}
 use Rattle.lvs_flat.proofs.Leaving.{as_they_are}
 use Rattle.lvs_flat.proofs.Ended.{found_by_id, server_by_id, put_leaves, ended_in, bound_ended_in, bound_is_found, bound_total}
 
@@ -53,7 +53,7 @@ connect_to_by false r q s t x a b = b
 
 connect_to_told : (s : State) (p : Packet) (service : Service) (d : Dest) (t : Option TemplateId) → says_too_long (connect_to s p service d t).0 ≡ is_too_long p.head d.spec.method
 connect_to_told s p service d t =
-    connect_to_by (is_one_packet service p.proto) _ _ _ _ (is_too_long p.head d.spec.method) (forwarded_told s p d.spec.method d.spec.addr (port_at d p.head)) (forwarded_told s p d.spec.method d.spec.addr (port_at d p.head))
+    connect_to_by (is_one_packet service p.proto) _ _ _ _ (is_too_long p.head d.spec.method) (forwarded_told s p d.spec.method d.spec.addr (connection_port d p.head)) (forwarded_told s p d.spec.method d.spec.addr (connection_port d p.head))
 
 take_pick_told : (s : State) (p : Packet) (service : Service) (d : Dest) (o : Option ℕ) → says_too_long (take_pick s p service d o).0 ≡ is_too_long p.head d.spec.method
 take_pick_told s p service d None = connect_to_told s p service d None
@@ -174,7 +174,7 @@ bound_told s p es ds b entries dests =
     ∙ ap (λ (later : List Entry). exceeds_by standing (exceeds_connection (record s { entries = later; dests = count_ended b.entry.server later ds }) p) known) entries
     ∙ ap (λ (later : List Dest). exceeds_by standing (exceeds_connection (record s { entries = left; dests = later }) p) known) dests
 
-named_told : (s : State) (p : Packet) (e : Entry) (id : DestId) → AreApart s → e.server ≡ Some id → says_too_long (continue_bound p (e, s)).0 ≡ exceeds_bound s p (record { entry = e; server = dest_at id s.dests })
+named_told : (s : State) (p : Packet) (e : Entry) (id : DestId) → HaveDistinctIds s → e.server ≡ Some id → says_too_long (continue_bound p (e, s)).0 ≡ exceeds_bound s p (record { entry = e; server = dest_at id s.dests })
 named_told s p e id apart is =
     let left : List Entry = without (has_entry_id e.id) s.entries in
     ap (λ (o : Option DestId). says_too_long (continue_at s p e (server_named o s.dests)).0) is
@@ -186,7 +186,7 @@ unbound_told s p e is =
     ap (λ (o : Option DestId). says_too_long (continue_at s p e (server_named o s.dests)).0) is
     ∙ bound_told s p s.entries s.dests (record { entry = e; server = None }) refl (ap (λ (o : Option DestId). count_ended o left s.dests) is ∙ sym (as_they_are s.dests))
 
-newly_told : (s : State) (p : Packet) (e : Entry) (d : Dest) → AreApart s → find (has_entry_id e.id) s.entries ≡ Some e → server_for_entry s.services s.dests e ≡ Some d
+newly_told : (s : State) (p : Packet) (e : Entry) (d : Dest) → HaveDistinctIds s → find (has_entry_id e.id) s.entries ≡ Some e → server_for_entry s.services s.dests e ≡ Some d
     → says_too_long (continue_bound p (bind_entry s e (Some d))).0 ≡ exceeds_bound s p (bound_with s e (Some d))
 newly_told s p e d apart there is =
     let b : Entry = bound_to d e in
@@ -198,19 +198,19 @@ newly_told s p e d apart there is =
     ap (λ (o : Option Dest). says_too_long (continue_at (record s { entries = es; dests = ds }) p b o).0) found
     ∙ bound_told s p es ds (bound_with s e (Some d)) (put_leaves (has_entry_id e.id) b s.entries (nat_same e.id)) (bound_ended_in d (dest_bound s e d) es left s.dests apart.dests refl found)
 
-bindable_told : (s : State) (p : Packet) (e : Entry) (o : Option Dest) → AreApart s → find (has_entry_id e.id) s.entries ≡ Some e → e.server ≡ None → server_for_entry s.services s.dests e ≡ o
+bindable_told : (s : State) (p : Packet) (e : Entry) (o : Option Dest) → HaveDistinctIds s → find (has_entry_id e.id) s.entries ≡ Some e → e.server ≡ None → server_for_entry s.services s.dests e ≡ o
     → says_too_long (continue_bound p (bind_entry s e o)).0 ≡ exceeds_bound s p (bound_with s e o)
 bindable_told s p e None apart there unbound is = unbound_told s p e unbound
 bindable_told s p e (Some d) apart there unbound is = newly_told s p e d apart there is
 
-entry_told : (s : State) (p : Packet) (e : Entry) (o : Option DestId) → AreApart s → find (has_entry_id e.id) s.entries ≡ Some e → e.server ≡ o → says_too_long (continue_bound p (try_binding s e o)).0 ≡ exceeds_bound s p (bound_in s e o)
+entry_told : (s : State) (p : Packet) (e : Entry) (o : Option DestId) → HaveDistinctIds s → find (has_entry_id e.id) s.entries ≡ Some e → e.server ≡ o → says_too_long (continue_bound p (try_binding s e o)).0 ≡ exceeds_bound s p (bound_in s e o)
 entry_told s p e None apart there is = bindable_told s p e (server_for_entry s.services s.dests e) apart there is refl
 entry_told s p e (Some id) apart there is = named_told s p e id apart is
 
-arrived_by : (s : State) (p : Packet) (key : Key) (o : Option Entry) → AreApart s → entry_at key s.entries ≡ o → says_too_long (arrive s p o).0 ≡ exceeds_arrived s p o
+arrived_by : (s : State) (p : Packet) (key : Key) (o : Option Entry) → HaveDistinctIds s → entry_at key s.entries ≡ o → says_too_long (arrive s p o).0 ≡ exceeds_arrived s p o
 arrived_by s p key None apart is = connect_told s p
 arrived_by s p key (Some e) apart is = entry_told s p e e.server apart (found_by_id key s.entries e apart.entries is) refl
 
 -- of every packet
-pub arrived_told : (s : State) (p : Packet) (key : Key) → AreApart s → says_too_long (arrive s p (entry_at key s.entries)).0 ≡ exceeds_arrived s p (entry_at key s.entries)
+pub arrived_told : (s : State) (p : Packet) (key : Key) → HaveDistinctIds s → says_too_long (arrive s p (entry_at key s.entries)).0 ≡ exceeds_arrived s p (entry_at key s.entries)
 arrived_told s p key apart = arrived_by s p key (entry_at key s.entries) apart refl

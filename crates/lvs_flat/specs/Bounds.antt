@@ -8,7 +8,7 @@ abbrev pub HasFewPackets : Entry → Type 0
 HasFewPackets e = e.packets < 2 ^ 63
 
 -- one more id, packet or deadline fits
-pub record HasRoom (s : State) : Type 0 where
+pub record HasHeadroom (s : State) : Type 0 where
   pub now : s.now < 2 ^ 32
   pub next_entry : s.next_entry < 2 ^ 63
   pub next_dest : s.next_dest < 2 ^ 63

@@ -36,7 +36,7 @@ says_too_long (reply.Drop drops.TooLong) = true
 says_too_long other = false
 
 -- no two entries have one id, and no two servers
-pub record AreApart (s : State) : Type 0 where
+pub record HaveDistinctIds (s : State) : Type 0 where
   pub entries : IsDistinct nat_eq (entry_ids s.entries)
   pub dests : IsDistinct nat_eq (dest_ids s.dests)
 

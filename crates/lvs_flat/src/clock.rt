@@ -15,10 +15,10 @@ use lvs_states::is_active;
 use lvs_types::{Dest, DestId, Entry, NoMemory, Reply, Template};
 use std::alloc::Global;
 
-pub(crate) fn do_tick(tables: &mut Tables, moment: u64) -> Reply
+pub(crate) fn tick(tables: &mut Tables, moment: u64) -> Reply
     ensures { (result, state_of tables.new) ≡ tick (state_of tables.old) moment }
 {
-    tables.moment = moment;
+    tables.now = moment;
     Reply::Ticked
 }
 
@@ -36,7 +36,7 @@ fn count_swept(tables: &Tables, bucket: u32) -> u64
     ensures { result ≡ length (filter (is_swept (state_of tables.now) bucket) tables.now.entries.items) }
 {
     let buckets = tables.buckets;
-    let now = tables.moment;
+    let now = tables.now;
     tables
         .entries
         .iter()
@@ -49,7 +49,7 @@ fn is_named_by_swept(tables: &Tables, bucket: u32, d: &Dest) -> bool
     ensures { result ≡ is_named_in (filter (is_swept (state_of tables.now) bucket) tables.now.entries.items) d.now }
 {
     let buckets = tables.buckets;
-    let now = tables.moment;
+    let now = tables.now;
     tables
         .entries
         .iter()
@@ -63,7 +63,7 @@ fn count_left_active(tables: &Tables, bucket: u32, id: DestId) -> u64
     ensures bound { result ≤ length tables.now.entries.items }
 {
     let buckets = tables.buckets;
-    let now = tables.moment;
+    let now = tables.now;
     tables
         .entries
         .iter()
@@ -78,7 +78,7 @@ fn count_left_inactive(tables: &Tables, bucket: u32, id: DestId) -> u64
     ensures bound { result ≤ length tables.now.entries.items }
 {
     let buckets = tables.buckets;
-    let now = tables.moment;
+    let now = tables.now;
     tables
         .entries
         .iter()
@@ -128,14 +128,14 @@ fn end_swept(entries: &mut Vec<Entry>, buckets: u32, now: u64, bucket: u32)
 }
 
 /// All due entries of the bucket end.
-pub(crate) fn do_sweep(alloc: Global, tables: &mut Tables, bucket: u32) -> Result<Reply, NoMemory>
+pub(crate) fn sweep(alloc: Global, tables: &mut Tables, bucket: u32) -> Result<Reply, NoMemory>
     requires { 0 < tables.old.buckets }
     ensures ok { IfOk result (λ r. (r, state_of tables.new) ≡ sweep (state_of tables.old) bucket) }
     ensures err { OnErr result (state_of tables.new ≡ state_of tables.old) }
 {
     let count = count_swept(tables, bucket);
     let dests = list_after_sweep(alloc, tables, bucket)?;
-    end_swept(&mut tables.entries, tables.buckets, tables.moment, bucket);
+    end_swept(&mut tables.entries, tables.buckets, tables.now, bucket);
     tables.dests = dests;
     Ok(Reply::Swept(count))
 }
@@ -143,13 +143,13 @@ pub(crate) fn do_sweep(alloc: Global, tables: &mut Tables, bucket: u32) -> Resul
 fn is_finished(tables: &Tables, t: &Template) -> bool
     ensures { result ≡ is_over (state_of tables.now) t.now }
 {
-    t.deadline <= tables.moment && count_controls(&tables.entries, t.id) == 0
+    t.deadline <= tables.now && count_controls(&tables.entries, t.id) == 0
 }
 
 fn is_still_held(tables: &Tables, t: &Template) -> bool
     ensures { result ≡ is_held (state_of tables.now) t.now }
 {
-    t.deadline <= tables.moment && 0 < count_controls(&tables.entries, t.id)
+    t.deadline <= tables.now && 0 < count_controls(&tables.entries, t.id)
 }
 
 fn hold_longer(now: u64, t: &Template) -> Template
@@ -163,20 +163,20 @@ fn hold_longer(now: u64, t: &Template) -> Template
 }
 
 fn reaped(tables: &Tables, t: &Template) -> Option<Template>
-    requires { tables.now.moment < 2 ^ 32 }
+    requires { tables.now.now < 2 ^ 32 }
     ensures { result ≡ reaped_template (state_of tables.now) t.now }
 {
     if is_finished(tables, t) {
         None
     } else if is_still_held(tables, t) {
-        Some(hold_longer(tables.moment, t))
+        Some(hold_longer(tables.now, t))
     } else {
         Some(*t)
     }
 }
 
 fn list_reaped(alloc: Global, tables: &Tables) -> Result<Vec<Template>, NoMemory>
-    requires { tables.now.moment < 2 ^ 32 }
+    requires { tables.now.now < 2 ^ 32 }
     ensures { IfOk result (λ v. v.items ≡ reaped_templates (state_of tables.now)) }
 {
     let mut templates = Vec::with_capacity(alloc, tables.templates.len())?;
@@ -245,8 +245,8 @@ fn list_kept(
 
 /// Due templates leave or are held longer, and then the servers in the trash that nothing names are
 /// released.
-pub(crate) fn do_reap(alloc: Global, tables: &mut Tables) -> Result<Reply, NoMemory>
-    requires { tables.old.moment < 2 ^ 32 }
+pub(crate) fn reap(alloc: Global, tables: &mut Tables) -> Result<Reply, NoMemory>
+    requires { tables.old.now < 2 ^ 32 }
     ensures ok { IfOk result (λ r. (r, state_of tables.new) ≡ reap (state_of tables.old)) }
     ensures err { OnErr result (state_of tables.new ≡ state_of tables.old) }
 {

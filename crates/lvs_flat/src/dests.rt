@@ -14,7 +14,7 @@ use crate::view::{View, count_active_in, count_inactive_in, seen};
 use lvs_types::{Addr, Candidate, Dest, DestId, DestSpec, Entry, ServiceKey, Template};
 
 /// The server of an id, live or in the trash.
-pub(crate) fn find_id(dests: &[Dest], id: DestId) -> Option<Dest>
+pub(crate) fn get_dest(dests: &[Dest], id: DestId) -> Option<Dest>
     ensures { result ≡ dest_at id dests.now }
 {
     for d in dests {

@@ -1,10 +1,10 @@
 //! Edits of the tables, the timeouts and the daemons (ipvsadm(8)).
 ghost use Rattle.std.specs.Prelude.{◌≡◌, ◌<◌, ◌+◌, ◌^◌, IfOk, OnErr};
 ghost use Rattle.lvs_flat.specs.Tables.{state_of};
-ghost use Rattle.lvs_model.specs.Edits.{fresh, add_service, edit_service, remove_service, clear, start_master, start_backup, stop_master, stop_backup, with_timeouts, or_kept, set, edit};
+ghost use Rattle.lvs_model.specs.Edits.{with_fresh_cursor, add_service, edit_service, remove_service, clear, start_master, start_backup, stop_master, stop_backup, with_timeouts, or_kept, set, edit};
 
 use crate::removal::{keep_after_clear, keep_after_service};
-use crate::servers::{add_server, edit_server, remove_server};
+use crate::server_edits::{add_server, edit_server, remove_server};
 use crate::services::{is_service, remove, replace};
 use crate::tables::Tables;
 use lvs_types::{
@@ -13,7 +13,7 @@ use lvs_types::{
 use std::alloc::Global;
 
 fn with_fresh_cursor(service: &Service) -> Service
-    ensures { result ≡ fresh service.now }
+    ensures { result ≡ with_fresh_cursor service.now }
 {
     Service {
         cursor: Cursor { last: None, cw: 0 },
@@ -21,7 +21,7 @@ fn with_fresh_cursor(service: &Service) -> Service
     }
 }
 
-fn do_add_service(tables: &mut Tables, service: &Service) -> Result<Reply, NoMemory>
+fn add_service(tables: &mut Tables, service: &Service) -> Result<Reply, NoMemory>
     ensures ok { IfOk result (λ r. (r, state_of tables.new) ≡ add_service (state_of tables.old) service.now) }
     ensures err { OnErr result (state_of tables.new ≡ state_of tables.old) }
 {
@@ -32,7 +32,7 @@ fn do_add_service(tables: &mut Tables, service: &Service) -> Result<Reply, NoMem
     Ok(Reply::Done)
 }
 
-fn do_edit_service(tables: &mut Tables, service: &Service) -> Reply
+fn edit_service(tables: &mut Tables, service: &Service) -> Reply
     ensures { (result, state_of tables.new) ≡ edit_service (state_of tables.old) service.now }
 {
     if !is_service(&tables.services, service.key) {
@@ -42,7 +42,7 @@ fn do_edit_service(tables: &mut Tables, service: &Service) -> Reply
     Reply::Done
 }
 
-fn do_remove_service(alloc: Global, tables: &mut Tables, key: ServiceKey) -> Result<Reply, NoMemory>
+fn remove_service(alloc: Global, tables: &mut Tables, key: ServiceKey) -> Result<Reply, NoMemory>
     ensures ok { IfOk result (λ r. (r, state_of tables.new) ≡ remove_service (state_of tables.old) key) }
     ensures err { OnErr result (state_of tables.new ≡ state_of tables.old) }
 {
@@ -55,7 +55,7 @@ fn do_remove_service(alloc: Global, tables: &mut Tables, key: ServiceKey) -> Res
     Ok(Reply::Done)
 }
 
-fn do_clear(alloc: Global, tables: &mut Tables) -> Result<Reply, NoMemory>
+fn clear(alloc: Global, tables: &mut Tables) -> Result<Reply, NoMemory>
     ensures ok { IfOk result (λ r. (r, state_of tables.new) ≡ clear (state_of tables.old)) }
     ensures err { OnErr result (state_of tables.new ≡ state_of tables.old) }
 {
@@ -65,7 +65,7 @@ fn do_clear(alloc: Global, tables: &mut Tables) -> Result<Reply, NoMemory>
     Ok(Reply::Done)
 }
 
-fn do_start_master(tables: &mut Tables, id: u8) -> Reply
+fn start_master(tables: &mut Tables, id: u8) -> Reply
     ensures { (result, state_of tables.new) ≡ start_master (state_of tables.old) id (state_of tables.old).daemons.master }
 {
     match tables.daemons.master {
@@ -77,7 +77,7 @@ fn do_start_master(tables: &mut Tables, id: u8) -> Reply
     }
 }
 
-fn do_start_backup(tables: &mut Tables, id: u8) -> Reply
+fn start_backup(tables: &mut Tables, id: u8) -> Reply
     ensures { (result, state_of tables.new) ≡ start_backup (state_of tables.old) id (state_of tables.old).daemons.backup }
 {
     match tables.daemons.backup {
@@ -89,7 +89,7 @@ fn do_start_backup(tables: &mut Tables, id: u8) -> Reply
     }
 }
 
-fn do_stop_master(tables: &mut Tables) -> Reply
+fn stop_master(tables: &mut Tables) -> Reply
     ensures { (result, state_of tables.new) ≡ stop_master (state_of tables.old) (state_of tables.old).daemons.master }
 {
     match tables.daemons.master {
@@ -102,7 +102,7 @@ fn do_stop_master(tables: &mut Tables) -> Reply
     }
 }
 
-fn do_stop_backup(tables: &mut Tables) -> Reply
+fn stop_backup(tables: &mut Tables) -> Reply
     ensures { (result, state_of tables.new) ≡ stop_backup (state_of tables.old) (state_of tables.old).daemons.backup }
 {
     match tables.daemons.backup {
@@ -129,7 +129,7 @@ fn set_timeouts(settings: &mut Settings, established: u32, fin_wait: u32, udp: u
 }
 
 /// Changes the named sysctl alone.
-pub(crate) fn do_set(tables: &mut Tables, setting: &Setting) -> Reply
+pub(crate) fn set(tables: &mut Tables, setting: &Setting) -> Reply
     ensures { (result, state_of tables.new) ≡ set (state_of tables.old) setting.now }
 {
     tables.settings.set(setting);
@@ -137,20 +137,16 @@ pub(crate) fn do_set(tables: &mut Tables, setting: &Setting) -> Reply
 }
 
 /// Carries out an edit, or refuses it and changes nothing.
-pub(crate) fn do_edit(
-    alloc: Global,
-    tables: &mut Tables,
-    command: &Command,
-) -> Result<Reply, NoMemory>
+pub(crate) fn edit(alloc: Global, tables: &mut Tables, command: &Command) -> Result<Reply, NoMemory>
     requires { tables.old.next_dest + 1 < 2 ^ 64 }
     ensures ok { IfOk result (λ r. (r, state_of tables.new) ≡ edit (state_of tables.old) command.now) }
     ensures err { OnErr result (state_of tables.new ≡ state_of tables.old) }
 {
     match command {
-        Command::AddService(service) => do_add_service(tables, service),
-        Command::EditService(service) => Ok(do_edit_service(tables, service)),
-        Command::RemoveService(key) => do_remove_service(alloc, tables, *key),
-        Command::Clear => do_clear(alloc, tables),
+        Command::AddService(service) => add_service(tables, service),
+        Command::EditService(service) => Ok(edit_service(tables, service)),
+        Command::RemoveService(key) => remove_service(alloc, tables, *key),
+        Command::Clear => clear(alloc, tables),
         Command::AddServer(key, spec) => add_server(tables, *key, spec),
         Command::EditServer(key, spec) => Ok(edit_server(tables, *key, spec)),
         Command::RemoveServer(key, addr, port) => {
@@ -160,9 +156,9 @@ pub(crate) fn do_edit(
             set_timeouts(&mut tables.settings, *established, *fin_wait, *udp);
             Ok(Reply::Done)
         }
-        Command::StartMaster(id) => Ok(do_start_master(tables, *id)),
-        Command::StartBackup(id) => Ok(do_start_backup(tables, *id)),
-        Command::StopMaster => Ok(do_stop_master(tables)),
-        Command::StopBackup => Ok(do_stop_backup(tables)),
+        Command::StartMaster(id) => Ok(start_master(tables, *id)),
+        Command::StartBackup(id) => Ok(start_backup(tables, *id)),
+        Command::StopMaster => Ok(stop_master(tables)),
+        Command::StopBackup => Ok(stop_backup(tables)),
     }
 }

@@ -3,20 +3,20 @@ ghost use Rattle.std.specs.Prelude.{◌≡◌, ◌<◌, ◌≤◌, ◌+◌, ◌^
 ghost use Rattle.lvs_model.specs.Messages.{HasOldFlags};
 ghost use Rattle.std.specs.List.{AllByRecursion};
 ghost use Rattle.lvs_flat.specs.Tables.{state_of};
-ghost use Rattle.lvs_flat.specs.Bounds.{HasRoom};
-ghost use Rattle.lvs_flat.specs.TooLong.{AreApart};
+ghost use Rattle.lvs_flat.specs.Bounds.{HasHeadroom};
+ghost use Rattle.lvs_flat.specs.TooLong.{HaveDistinctIds};
 ghost use Rattle.lvs_model.specs.Snapshots.{snapshot_of};
 ghost use Rattle.lvs_model.specs.State.{initial};
 ghost use Rattle.lvs_model.specs.Step.{step, IsInRange};
 ghost use Rattle.lvs_model.specs.Counted.{IsCounted};
 ghost use Rattle.lvs_model.specs.WellFormed.{IsWellFormed};
 
-use crate::arriving::do_incoming;
-use crate::clock::{do_reap, do_sweep, do_tick};
-use crate::edits::{do_edit, do_set};
-use crate::learning::do_learn;
-use crate::outgoing::do_outgoing;
-use crate::sending::do_send;
+use crate::clock::{reap, sweep, tick};
+use crate::edits::{edit, set};
+use crate::incoming::handle_incoming;
+use crate::learning::learn;
+use crate::outgoing::handle_outgoing;
+use crate::sending::send_pending;
 use crate::snapshot::show;
 use crate::tables::Tables;
 use lvs_types::{Addr, Item, NoMemory, Reply, Snapshot};
@@ -45,25 +45,25 @@ impl Model for Flat {
     ghost invariant = { λ f. IsCounted f.steps (state_of f.tables) × IsWellFormed (state_of f.tables) };
 }
 
-fn do_step(alloc: Global, tables: &mut Tables, item: &Item) -> Result<Reply, NoMemory>
-    requires room { HasRoom (state_of tables.old) }
+fn take_item(alloc: Global, tables: &mut Tables, item: &Item) -> Result<Reply, NoMemory>
+    requires room { HasHeadroom (state_of tables.old) }
     requires buckets { 0 < tables.old.buckets }
-    requires apart { AreApart (state_of tables.old) }
+    requires apart { HaveDistinctIds (state_of tables.old) }
     requires pending { AllByRecursion HasOldFlags tables.old.pending.items }
     ensures ok { IfOk result (λ r. (r, state_of tables.new) ≡ step (state_of tables.old) item.now) }
     ensures err { OnErr result (state_of tables.new ≡ state_of tables.old) }
 {
     match item {
-        Item::Incoming { mark, bytes } => do_incoming(alloc, tables, *mark, bytes.as_slice()),
-        Item::Outgoing { bytes } => do_outgoing(alloc, tables, bytes.as_slice()),
-        Item::Edit(command) => do_edit(alloc, tables, command),
-        Item::Set(setting) => Ok(do_set(tables, setting)),
-        Item::Learn { sync_id, item } => do_learn(tables, *sync_id, item),
+        Item::Incoming { mark, bytes } => handle_incoming(alloc, tables, *mark, bytes.as_slice()),
+        Item::Outgoing { bytes } => handle_outgoing(alloc, tables, bytes.as_slice()),
+        Item::Edit(command) => edit(alloc, tables, command),
+        Item::Set(setting) => Ok(set(tables, setting)),
+        Item::Learn { sync_id, item } => learn(tables, *sync_id, item),
         Item::BadSync(why) => Ok(Reply::BadMessage(*why)),
-        Item::Tick(moment) => Ok(do_tick(tables, *moment)),
-        Item::Sweep(bucket) => do_sweep(alloc, tables, *bucket),
-        Item::Reap => do_reap(alloc, tables),
-        Item::SendSync => do_send(alloc, tables),
+        Item::Tick(moment) => Ok(tick(tables, *moment)),
+        Item::Sweep(bucket) => sweep(alloc, tables, *bucket),
+        Item::Reap => reap(alloc, tables),
+        Item::SendSync => send_pending(alloc, tables),
     }
 }
 
@@ -106,7 +106,7 @@ impl Flat {
         ensures steps { OnOk result (self.new.steps ≡ self.old.steps + 1) }
         ensures err { OnErr result (self.new ≡ self.old) }
     {
-        let reply = do_step(alloc, &mut self.tables, item)?;
+        let reply = take_item(alloc, &mut self.tables, item)?;
         self.steps += 1;
         Ok(reply)
     }

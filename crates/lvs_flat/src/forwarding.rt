@@ -2,15 +2,15 @@
 ghost use Rattle.std.specs.Prelude.{◌≡◌, ◌<◌, ◌≤◌, ◌+◌, ◌^◌, ◌++◌, [], true, length, vec_len, vec_capacity};
 ghost use Rattle.std.specs.List.{AllByRecursion};
 ghost use Rattle.lvs_flat.specs.Tables.{state_of, IsRoomy};
-ghost use Rattle.lvs_flat.specs.Arrivals.{packet_of, IsRead};
+ghost use Rattle.lvs_flat.specs.Packets.{packet_of, IsReadPacket};
 ghost use Rattle.lvs_flat.specs.Bounds.{HasFewPackets};
 ghost use Rattle.lvs_model.specs.Forwarding.{direction_in, state_after, in_state, after_packet, template_records, records_of_template, records_due, forwarded, forward_known};
 ghost use Rattle.lvs_model.specs.Rewriting.{bytes_for, outer_bytes, masq_in_bytes, is_too_long};
 
-use crate::arrival::Arrival;
 use crate::entries::put;
+use crate::packet::Packet;
 use crate::tables::Tables;
-use crate::templates::find_id;
+use crate::templates::get_template;
 use lvs_rewrite::{masq_in, outer_header};
 use lvs_states::{next_state, timeout_of};
 use lvs_sync_rules::{due_for_sync, of_entry, of_template};
@@ -62,8 +62,8 @@ pub(crate) fn put_in_state(
 }
 
 /// The entry after one more packet of its client.
-fn with_packet(tables: &Tables, p: &Arrival<'_>, e: &Entry) -> Entry
-    requires now { tables.now.moment < 2 ^ 32 }
+fn with_packet(tables: &Tables, p: &Packet<'_>, e: &Entry) -> Entry
+    requires now { tables.now.now < 2 ^ 32 }
     requires packets { HasFewPackets e.now }
     ensures { result ≡ after_packet (state_of tables.now) (packet_of p.now) e.now }
 {
@@ -72,7 +72,7 @@ fn with_packet(tables: &Tables, p: &Arrival<'_>, e: &Entry) -> Entry
         packets: e.packets + 1,
         ..*e
     };
-    put_in_state(&tables.settings, tables.moment, state, &counted)
+    put_in_state(&tables.settings, tables.now, state, &counted)
 }
 
 fn push_template_records(tables: &mut Tables, template: Option<TemplateId>)
@@ -81,7 +81,7 @@ fn push_template_records(tables: &mut Tables, template: Option<TemplateId>)
     ensures rest { state_of tables.new ≡ record (state_of tables.old) { pending = tables.new.pending.items } }
 {
     if let Some(id) = template {
-        if let Some(t) = find_id(&tables.templates, id) {
+        if let Some(t) = get_template(&tables.templates, id) {
             tables.pending.push_reserved(of_template(&t));
         }
     }
@@ -127,8 +127,8 @@ fn fill_both(room: &mut Vec<u8>, outer: &[u8; 20], bytes: &[u8])
     room.extend_from_slice(bytes).unwrap();
 }
 
-fn masquerade(mut room: Vec<u8>, p: &Arrival<'_>, daddr: Addr, dport: u16) -> Bytes
-    requires read { IsRead p.now }
+fn masquerade(mut room: Vec<u8>, p: &Packet<'_>, daddr: Addr, dport: u16) -> Bytes
+    requires read { IsReadPacket p.now }
     requires empty { room.items ≡ [] }
     requires space { length p.now.bytes.now ≤ vec_capacity room }
     ensures { result ≡ masq_in_bytes p.now.head p.now.bytes.now daddr dport }
@@ -141,13 +141,13 @@ fn masquerade(mut room: Vec<u8>, p: &Arrival<'_>, daddr: Addr, dport: u16) -> By
 /// The packet on its way to an address and port, unless its tunnel packet would be too long.
 pub(crate) fn forward(
     tables: &Tables,
-    p: &Arrival<'_>,
+    p: &Packet<'_>,
     method: Method,
     daddr: Addr,
     dport: u16,
     mut room: Vec<u8>,
 ) -> Reply
-    requires read { IsRead p.now }
+    requires read { IsReadPacket p.now }
     requires empty { room.items ≡ [] }
     requires space { length p.now.bytes.now + 20 ≤ vec_capacity room }
     ensures { result ≡ forwarded (state_of tables.now) (packet_of p.now) method daddr dport }
@@ -174,10 +174,10 @@ pub(crate) fn forward(
 }
 
 /// A packet of a connection that is there.
-pub(crate) fn forward_entry(tables: &mut Tables, p: &Arrival<'_>, e: &Entry, room: Vec<u8>) -> Reply
-    requires read { IsRead p.now }
+pub(crate) fn forward_entry(tables: &mut Tables, p: &Packet<'_>, e: &Entry, room: Vec<u8>) -> Reply
+    requires read { IsReadPacket p.now }
     requires roomy { IsRoomy tables.old }
-    requires now { tables.old.moment < 2 ^ 32 }
+    requires now { tables.old.now < 2 ^ 32 }
     requires packets { HasFewPackets e.now }
     requires empty { room.items ≡ [] }
     requires space { length p.now.bytes.now + 20 ≤ vec_capacity room }

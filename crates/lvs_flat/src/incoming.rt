@@ -1,159 +1,128 @@
-//! An incoming packet: the rules in their order.
-ghost use Rattle.std.specs.Prelude.{◌≡◌, ◌<◌, ◌≤◌, ◌+◌, ◌^◌, [], take, Ok, Some, IfOk, OnErr, length, vec_len, vec_capacity};
-ghost use Rattle.std.specs.List.{AllByRecursion};
+//! An incoming packet from its bytes to its reply.
+ghost use Rattle.std.specs.Prelude.{◌≡◌, ◌<◌, ◌≤◌, ◌+◌, ◌^◌, take, Some, None, IfOk, OnErr, length};
 ghost use Rattle.lvs_flat.specs.Tables.{state_of, IsRoomy};
-ghost use Rattle.lvs_flat.specs.Bounds.{HasRoom, HasFewPackets};
-ghost use Rattle.lvs_flat.specs.Arrivals.{packet_of, IsRead, ServesFor};
-ghost use Rattle.lvs_model.specs.Lookups.{entry_at};
-ghost use Rattle.lvs_model.specs.Packets.{key_of};
-ghost use Rattle.lvs_model.specs.Scheduling.{connect};
-ghost use Rattle.lvs_model.specs.Incoming.{end_entry, is_time_wait, is_quiet, is_trashed, server_named, is_reused, standing_of, gone, continue, continue_at, continue_bound, arrive};
+ghost use Rattle.std.specs.List.{AllByRecursion};
+ghost use Rattle.lvs_flat.specs.Bounds.{HasHeadroom, HasFewPackets};
+ghost use Rattle.lvs_flat.specs.TooLong.{HaveDistinctIds};
+ghost use Rattle.lvs_flat.specs.Packets.{packet_of, IsReadPacket, ServesFor, ServesAll};
+ghost use Rattle.lvs_types.specs.Transport.{transport_of};
+ghost use Rattle.lvs_model.specs.Reading.{read};
+ghost use Rattle.lvs_model.specs.Incoming.{incoming, incoming_of, incoming_packet};
 
-use crate::arrival::{Arrival, Rooms};
-use crate::binding::try_to_bind;
-use crate::dests::{find_id, note_ended};
-use crate::entries::{find_key, remove};
-use crate::forwarding::forward_entry;
-use crate::packets::{is_syn, key_of_packet};
-use crate::serving::do_connect;
+use crate::known_connection::arrive;
+use crate::packet::{Packet, Rooms, ServerLists};
 use crate::tables::Tables;
-use lvs_model::incoming::Standing;
-use lvs_types::{Dest, DestId, DropCause, Entry, Reply, Settings, TcpState};
+use crate::too_long::is_too_long;
+use lvs_headers::read_packet;
+use lvs_types::{DropCause, NoMemory, Reply};
+use std::alloc::Global;
 
-/// The entry leaves, and its server's overload is looked at.
-pub(crate) fn do_end(tables: &mut Tables, e: &Entry)
-    ensures ended { state_of tables.new ≡ end_entry e.now (state_of tables.old) }
-    ensures roomy { IsRoomy tables.old → IsRoomy tables.new }
-    ensures dests { vec_len tables.new.dests ≡ vec_len tables.old.dests }
+/// Room in the tables for all that a packet may add.
+fn make_room(tables: &mut Tables) -> Result<(), NoMemory>
+    requires { HasHeadroom (state_of tables.old) }
+    ensures state { state_of tables.new ≡ state_of tables.old }
+    ensures dests { tables.new.dests ≡ tables.old.dests }
+    ensures roomy { IfOk result (λ _. IsRoomy tables.new) }
 {
-    remove(&mut tables.entries, e.id);
-    note_ended(&mut tables.dests, &tables.entries, e.server);
+    tables.entries.reserve(1)?;
+    tables.templates.reserve(1)?;
+    tables.pending.reserve(2)?;
+    Ok(())
 }
 
-fn waits(state: Option<TcpState>) -> bool
-    ensures { result ≡ is_time_wait state }
+/// Empty lists for the servers.
+fn take_lists(alloc: Global, tables: &Tables) -> Result<ServerLists, NoMemory>
+    ensures { IfOk result (λ lists. ServesAll lists tables.now) }
 {
-    match state {
-        Some(TcpState::TimeWait) => true,
-        _ => false,
-    }
+    let servers = tables.dests.len();
+    Ok(ServerLists {
+        candidates: Vec::with_capacity(alloc, servers)?,
+        addrs: Vec::with_capacity(alloc, servers)?,
+    })
 }
 
-fn is_without_weight(server: Option<Dest>) -> bool
-    ensures { result ≡ is_quiet server }
+/// Empty lists for the packet and the servers.
+fn take_rooms(alloc: Global, tables: &Tables, p: &Packet<'_>) -> Result<Rooms, NoMemory>
+    requires { IsReadPacket p.now }
+    ensures { IfOk result (λ rooms. ServesFor rooms tables.now p.now) }
 {
-    match server {
-        None => false,
-        Some(d) => d.live && d.spec.weight == 0,
-    }
+    Ok(Rooms {
+        bytes: Vec::with_capacity(alloc, p.bytes.len() + 20)?,
+        lists: take_lists(alloc, tables)?,
+    })
 }
 
-fn is_in_trash(server: Option<Dest>) -> bool
-    ensures { result ≡ is_trashed server }
-{
-    match server {
-        None => false,
-        Some(d) => !d.live,
-    }
-}
-
-fn find_named(dests: &[Dest], server: Option<DestId>) -> Option<Dest>
-    ensures { result ≡ server_named server dests.now }
-{
-    match server {
-        None => None,
-        Some(id) => find_id(dests, id),
-    }
-}
-
-fn reuses(settings: &Settings, p: &Arrival<'_>, e: &Entry, server: Option<Dest>) -> bool
-    ensures { result ≡ is_reused settings.now (packet_of p.now) e.now server }
-{
-    is_syn(p.proto, &p.head)
-        && ((settings.reuse_mode == 1 && waits(e.state))
-            || (0 < settings.expire_nodest && is_without_weight(server)))
-}
-
-pub(crate) fn standing_of(
-    settings: &Settings,
-    p: &Arrival<'_>,
-    e: &Entry,
-    server: Option<Dest>,
-) -> Standing
-    ensures { result ≡ standing_of settings.now (packet_of p.now) e.now server }
-{
-    if reuses(settings, p, e, server) {
-        Standing::Reused
-    } else if is_in_trash(server) {
-        Standing::ServerGone
-    } else {
-        Standing::InUse
-    }
-}
-
-fn do_gone(tables: &mut Tables, e: &Entry) -> Reply
-    ensures { (result, state_of tables.new) ≡ gone (state_of tables.old) e.now }
-{
-    if tables.settings.expire_nodest != 0 {
-        do_end(tables, e);
-    }
-    Reply::Drop(DropCause::Gone)
-}
-
-/// A new connection takes the entry's place.
-fn do_reuse(tables: &mut Tables, p: &Arrival<'_>, e: &Entry, rooms: Rooms) -> Reply
-    requires read { IsRead p.now }
-    requires roomy { IsRoomy tables.old }
-    requires rooms { ServesFor rooms tables.old p.now }
-    ensures { (result, state_of tables.new) ≡ connect (end_entry e.now (state_of tables.old)) (packet_of p.now) }
-{
-    do_end(tables, e);
-    do_connect(tables, p, rooms)
-}
-
-/// A packet of a connection, by how the entry stands.
-fn do_continue(
-    tables: &mut Tables,
-    p: &Arrival<'_>,
-    e: &Entry,
-    server: Option<Dest>,
-    rooms: Rooms,
-) -> Reply
-    requires read { IsRead p.now }
-    requires roomy { IsRoomy tables.old }
-    requires rooms { ServesFor rooms tables.old p.now }
-    requires packets { HasFewPackets e.now }
-    ensures { (result, state_of tables.new) ≡ continue_at (state_of tables.old) (packet_of p.now) e.now server }
-{
-    match standing_of(&tables.settings, p, e, server) {
-        Standing::Reused => do_reuse(tables, p, e, rooms),
-        Standing::ServerGone => do_gone(tables, e),
-        Standing::InUse => forward_entry(tables, p, e, rooms.bytes),
-    }
-}
-
-fn do_bound(tables: &mut Tables, p: &Arrival<'_>, e: Entry, rooms: Rooms) -> Reply
-    requires read { IsRead p.now }
-    requires roomy { IsRoomy tables.old }
-    requires rooms { ServesFor rooms tables.old p.now }
-    requires packets { HasFewPackets e }
-    ensures { (result, state_of tables.new) ≡ arrive (state_of tables.old) (packet_of p.now) (Some e) }
-{
-    let e = try_to_bind(tables, e);
-    let server = find_named(&tables.dests, e.server);
-    do_continue(tables, p, &e, server, rooms)
-}
-
-/// The packet's entry is looked up, and the rules take it from there.
-pub(crate) fn do_arrive(tables: &mut Tables, p: &Arrival<'_>, rooms: Rooms) -> Reply
-    requires read { IsRead p.now }
+/// A packet that fits any tunnel: nothing is taken back.
+fn arrive_short(tables: &mut Tables, p: &Packet<'_>, rooms: Rooms) -> Reply
+    requires short { p.now.head.total ≤ 65515 }
+    requires read { IsReadPacket p.now }
     requires roomy { IsRoomy tables.old }
     requires rooms { ServesFor rooms tables.old p.now }
     requires packets { AllByRecursion HasFewPackets tables.old.entries.items }
-    ensures { (result, state_of tables.new) ≡ arrive (state_of tables.old) (packet_of p.now) (entry_at (key_of p.now.proto p.now.head) tables.old.entries.items) }
+    ensures { (result, state_of tables.new) ≡ incoming_packet (state_of tables.old) (packet_of p.now) }
 {
-    match find_key(&tables.entries, &key_of_packet(p.proto, &p.head)) {
-        None => do_connect(tables, p, rooms),
-        Some(e) => do_bound(tables, p, e, rooms),
+    arrive(tables, p, rooms)
+}
+
+/// A packet that may be too long for a tunnel: whether it is, is told before the first change.
+fn arrive_long(tables: &mut Tables, p: &Packet<'_>, lists: ServerLists, rooms: Rooms) -> Reply
+    requires read { IsReadPacket p.now }
+    requires roomy { IsRoomy tables.old }
+    requires lists { ServesAll lists tables.old }
+    requires rooms { ServesFor rooms tables.old p.now }
+    requires packets { AllByRecursion HasFewPackets tables.old.entries.items }
+    requires apart { HaveDistinctIds (state_of tables.old) }
+    ensures { (result, state_of tables.new) ≡ incoming_packet (state_of tables.old) (packet_of p.now) }
+{
+    if is_too_long(tables, p, lists) {
+        return Reply::Drop(DropCause::TooLong);
     }
+    arrive(tables, p, rooms)
+}
+
+fn handle_packet(alloc: Global, tables: &mut Tables, p: &Packet<'_>) -> Result<Reply, NoMemory>
+    requires read { IsReadPacket p.now }
+    requires room { HasHeadroom (state_of tables.old) }
+    requires apart { HaveDistinctIds (state_of tables.old) }
+    ensures ok { IfOk result (λ r. (r, state_of tables.new) ≡ incoming_packet (state_of tables.old) (packet_of p.now)) }
+    ensures err { OnErr result (state_of tables.new ≡ state_of tables.old) }
+{
+    let rooms = take_rooms(alloc, tables, p)?;
+    if p.head.total <= 65515 {
+        make_room(tables)?;
+        Ok(arrive_short(tables, p, rooms))
+    } else {
+        let lists = take_lists(alloc, tables)?;
+        make_room(tables)?;
+        Ok(arrive_long(tables, p, lists, rooms))
+    }
+}
+
+/// An incoming packet, from its bytes to its reply.
+pub(crate) fn handle_incoming(
+    alloc: Global,
+    tables: &mut Tables,
+    mark: u32,
+    bytes: &[u8],
+) -> Result<Reply, NoMemory>
+    requires room { HasHeadroom (state_of tables.old) }
+    requires apart { HaveDistinctIds (state_of tables.old) }
+    ensures ok { IfOk result (λ r. (r, state_of tables.new) ≡ incoming (state_of tables.old) mark bytes.now) }
+    ensures err { OnErr result (state_of tables.new ≡ state_of tables.old) }
+{
+    let packet = match read_packet(bytes) {
+        Err(cause) => return Ok(Reply::Drop(DropCause::Malformed(cause))),
+        Ok(packet) => packet,
+    };
+    let head = packet.head();
+    let Some(proto) = head.transport() else {
+        return Ok(Reply::Pass);
+    };
+    let packet = Packet {
+        mark,
+        proto,
+        head,
+        bytes: packet.whole(),
+    };
+    handle_packet(alloc, tables, &packet)
 }

@@ -1,14 +1,14 @@
 //! A record of a sync message arrives.
 ghost use Rattle.std.specs.Prelude.{◌≡◌, ◌<◌, ◌^◌, true, None, IfOk, OnErr};
 ghost use Rattle.lvs_flat.specs.Tables.{state_of, IsRoomy};
-ghost use Rattle.lvs_flat.specs.Bounds.{HasRoom};
+ghost use Rattle.lvs_flat.specs.Bounds.{HasHeadroom};
 ghost use Rattle.lvs_model.specs.SyncRules.{is_template_record};
 ghost use Rattle.lvs_model.specs.Binding.{put_entry as entry_put};
 ghost use Rattle.lvs_model.specs.Learning.{learnt_timeout, recorded_proto, recorded_method, recorded_state, recorded_key, recorded_entry, add_entry, relearnt, goes_to_recorded, relearn, learn_connection, recorded_template_key, recorded_template, add_template, relearnt_template, template_goes_to_recorded, relearn_template, learn_template, learn_record, learn_item, learn_by, learn};
 
 use crate::binding::{rebind, tried, try_to_bind};
 use crate::entries::{find_key as find_entry, put as put_entry};
-use crate::incoming::do_end;
+use crate::known_connection::end_entry;
 use crate::tables::Tables;
 use crate::templates::{find_key as find_template, put as put_template, remove};
 use lvs_sync_rules::accept;
@@ -57,7 +57,7 @@ fn key_in(r: &SyncRecord) -> Key
 }
 
 fn entry_in(tables: &Tables, r: &SyncRecord) -> Entry
-    requires { tables.now.moment < 2 ^ 32 }
+    requires { tables.now.now < 2 ^ 32 }
     ensures { result ≡ recorded_entry (state_of tables.now) r.now }
 {
     Entry {
@@ -69,7 +69,7 @@ fn entry_in(tables: &Tables, r: &SyncRecord) -> Entry
         dport: r.dport,
         state: state_in(proto_in(r), r.state),
         timeout: timeout_in(r),
-        deadline: tables.moment + u64::from(timeout_in(r)),
+        deadline: tables.now + u64::from(timeout_in(r)),
         packets: 0,
         template: None,
         mark: r.mark,
@@ -77,7 +77,7 @@ fn entry_in(tables: &Tables, r: &SyncRecord) -> Entry
 }
 
 /// The recorded entry stands last, and is bound where a server is found for it.
-fn do_add_entry(tables: &mut Tables, r: &SyncRecord)
+fn add_entry(tables: &mut Tables, r: &SyncRecord)
     requires { IsRoomy tables.old }
     ensures { state_of tables.new ≡ add_entry (state_of tables.old) (recorded_entry (state_of tables.old) r.now) }
 {
@@ -88,13 +88,13 @@ fn do_add_entry(tables: &mut Tables, r: &SyncRecord)
 }
 
 fn with_record(tables: &Tables, r: &SyncRecord, e: &Entry) -> Entry
-    requires { tables.now.moment < 2 ^ 32 }
+    requires { tables.now.now < 2 ^ 32 }
     ensures { result ≡ relearnt (state_of tables.now) r.now e.now }
 {
     Entry {
         state: state_in(proto_in(r), r.state),
         timeout: timeout_in(r),
-        deadline: tables.moment + u64::from(timeout_in(r)),
+        deadline: tables.now + u64::from(timeout_in(r)),
         ..*e
     }
 }
@@ -112,7 +112,7 @@ fn keep_entry(tables: &mut Tables, e: Entry)
 }
 
 /// The entry of the key goes to the recorded address and port.
-fn do_renew(tables: &mut Tables, r: &SyncRecord, e: &Entry)
+fn renew_entry(tables: &mut Tables, r: &SyncRecord, e: &Entry)
     requires { IsRoomy tables.old }
     ensures { state_of tables.new ≡ relearn (state_of tables.old) r.now e.now true }
 {
@@ -122,25 +122,25 @@ fn do_renew(tables: &mut Tables, r: &SyncRecord, e: &Entry)
 }
 
 /// The entry of the key goes to the recorded address and port, or to another.
-fn do_relearn(tables: &mut Tables, r: &SyncRecord, e: &Entry)
+fn relearn(tables: &mut Tables, r: &SyncRecord, e: &Entry)
     requires { IsRoomy tables.old }
     ensures { state_of tables.new ≡ relearn (state_of tables.old) r.now e.now (goes_to_recorded r.now e.now) }
 {
     if goes_there(r, e) {
-        do_renew(tables, r, e);
+        renew_entry(tables, r, e);
     } else {
-        do_end(tables, e);
-        do_add_entry(tables, r);
+        end_entry(tables, e);
+        add_entry(tables, r);
     }
 }
 
-fn do_learn_connection(tables: &mut Tables, r: &SyncRecord, e: Option<Entry>)
+fn learn_connection(tables: &mut Tables, r: &SyncRecord, e: Option<Entry>)
     requires { IsRoomy tables.old }
     ensures { state_of tables.new ≡ learn_connection (state_of tables.old) r.now e }
 {
     match e {
-        None => do_add_entry(tables, r),
-        Some(e) => do_relearn(tables, r, &e),
+        None => add_entry(tables, r),
+        Some(e) => relearn(tables, r, &e),
     }
 }
 
@@ -156,7 +156,7 @@ fn template_key_in(r: &SyncRecord) -> TemplateKey
 }
 
 fn template_in(tables: &Tables, r: &SyncRecord) -> Template
-    requires { tables.now.moment < 2 ^ 32 }
+    requires { tables.now.now < 2 ^ 32 }
     ensures { result ≡ recorded_template (state_of tables.now) r.now }
 {
     Template {
@@ -167,13 +167,13 @@ fn template_in(tables: &Tables, r: &SyncRecord) -> Template
         daddr: r.daddr,
         dport: r.dport,
         timeout: timeout_in(r),
-        deadline: tables.moment + u64::from(timeout_in(r)),
+        deadline: tables.now + u64::from(timeout_in(r)),
     }
 }
 
 /// The template of the key leaves, if there is one; the recorded one stands last, bound where a
 /// server is found for it.
-fn do_add_template(tables: &mut Tables, r: &SyncRecord)
+fn add_template(tables: &mut Tables, r: &SyncRecord)
     requires { IsRoomy tables.old }
     ensures { state_of tables.new ≡ add_template (state_of tables.old) (recorded_template (state_of tables.old) r.now) }
 {
@@ -185,12 +185,12 @@ fn do_add_template(tables: &mut Tables, r: &SyncRecord)
 }
 
 fn with_template_record(tables: &Tables, r: &SyncRecord, t: &Template) -> Template
-    requires { tables.now.moment < 2 ^ 32 }
+    requires { tables.now.now < 2 ^ 32 }
     ensures { result ≡ relearnt_template (state_of tables.now) r.now t.now }
 {
     Template {
         timeout: timeout_in(r),
-        deadline: tables.moment + u64::from(timeout_in(r)),
+        deadline: tables.now + u64::from(timeout_in(r)),
         ..*t
     }
 }
@@ -201,7 +201,7 @@ fn template_goes_there(r: &SyncRecord, t: &Template) -> bool
     t.daddr == r.daddr && t.dport == r.dport
 }
 
-fn do_relearn_template(tables: &mut Tables, r: &SyncRecord, t: &Template)
+fn relearn_template(tables: &mut Tables, r: &SyncRecord, t: &Template)
     requires { IsRoomy tables.old }
     ensures { state_of tables.new ≡ relearn_template (state_of tables.old) r.now t.now (template_goes_to_recorded r.now t.now) }
 {
@@ -210,17 +210,17 @@ fn do_relearn_template(tables: &mut Tables, r: &SyncRecord, t: &Template)
         let t = tried(tables, t);
         put_template(&mut tables.templates, t);
     } else {
-        do_add_template(tables, r);
+        add_template(tables, r);
     }
 }
 
-fn do_learn_template(tables: &mut Tables, r: &SyncRecord, t: Option<Template>)
+fn learn_template(tables: &mut Tables, r: &SyncRecord, t: Option<Template>)
     requires { IsRoomy tables.old }
     ensures { state_of tables.new ≡ learn_template (state_of tables.old) r.now t }
 {
     match t {
-        None => do_add_template(tables, r),
-        Some(t) => do_relearn_template(tables, r, &t),
+        None => add_template(tables, r),
+        Some(t) => relearn_template(tables, r, &t),
     }
 }
 
@@ -230,32 +230,32 @@ fn is_of_template(r: &SyncRecord) -> bool
     r.flags & 0x1000 != 0
 }
 
-fn do_learn_record(tables: &mut Tables, r: &SyncRecord)
+fn learn_record(tables: &mut Tables, r: &SyncRecord)
     requires { IsRoomy tables.old }
     ensures { state_of tables.new ≡ learn_record (state_of tables.old) r.now }
 {
     if is_of_template(r) {
         let t = find_template(&tables.templates, &template_key_in(r));
-        do_learn_template(tables, r, t);
+        learn_template(tables, r, t);
     } else {
         let e = find_entry(&tables.entries, &key_in(r));
-        do_learn_connection(tables, r, e);
+        learn_connection(tables, r, e);
     }
 }
 
-fn do_learn_item(tables: &mut Tables, item: &SyncItem)
+fn learn_item(tables: &mut Tables, item: &SyncItem)
     requires { IsRoomy tables.old }
     ensures { state_of tables.new ≡ learn_item (state_of tables.old) item.now }
 {
     match item {
         SyncItem::V6 => {}
-        SyncItem::V4(r) => do_learn_record(tables, r),
+        SyncItem::V4(r) => learn_record(tables, r),
     }
 }
 
 /// A record of a message with a sync id is learnt, or refused.
-pub(crate) fn do_learn(tables: &mut Tables, sync_id: u8, item: &SyncItem) -> Result<Reply, NoMemory>
-    requires { HasRoom (state_of tables.old) }
+pub(crate) fn learn(tables: &mut Tables, sync_id: u8, item: &SyncItem) -> Result<Reply, NoMemory>
+    requires { HasHeadroom (state_of tables.old) }
     ensures ok { IfOk result (λ r. (r, state_of tables.new) ≡ learn (state_of tables.old) sync_id item.now) }
     ensures err { OnErr result (state_of tables.new ≡ state_of tables.old) }
 {
@@ -264,7 +264,7 @@ pub(crate) fn do_learn(tables: &mut Tables, sync_id: u8, item: &SyncItem) -> Res
         tables.entries.reserve(1)?;
         tables.templates.reserve(1)?;
         tables.pending.reserve(2)?;
-        do_learn_item(tables, item);
+        learn_item(tables, item);
     }
     Ok(Reply::Learnt(answer))
 }

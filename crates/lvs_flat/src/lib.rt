@@ -1,8 +1,6 @@
 //! The plain director: flat lists in vectors, walked at each use.
 #![tactic(auto)]
 
-mod arrival;
-mod arriving;
 mod binding;
 mod clock;
 mod dests;
@@ -10,18 +8,20 @@ mod edits;
 mod entries;
 mod flat;
 mod forwarding;
+mod headers;
 mod incoming;
+mod known_connection;
 mod learning;
+mod new_connection;
 mod outgoing;
-mod packets;
+mod packet;
 mod persistence;
 mod pick;
 mod removal;
 mod scheduling;
 mod sending;
-mod servers;
+mod server_edits;
 mod services;
-mod serving;
 mod snapshot;
 mod tables;
 mod templates;

@@ -1,7 +1,7 @@
 //! An outgoing packet: the answer of a masqueraded connection.
 ghost use Rattle.std.specs.Prelude.{◌≡◌, ◌<◌, ◌≤◌, ◌^◌, [], vec_capacity, take, true, Ok, Some, IfOk, OnErr, length};
 ghost use Rattle.lvs_flat.specs.Tables.{state_of};
-ghost use Rattle.lvs_flat.specs.Bounds.{HasRoom};
+ghost use Rattle.lvs_flat.specs.Bounds.{HasHeadroom};
 ghost use Rattle.lvs_types.specs.Transport.{transport_of};
 ghost use Rattle.lvs_model.specs.Reading.{read};
 ghost use Rattle.lvs_model.specs.Rewriting.{masq_out_bytes, has_ports};
@@ -32,22 +32,22 @@ fn masquerade_back(head: &Head, bytes: &[u8], e: &Entry, mut room: Vec<u8>) -> B
 }
 
 fn renew(tables: &mut Tables, head: &Head, e: &Entry)
-    requires { tables.old.moment < 2 ^ 32 }
-    ensures { state_of tables.new ≡ record (state_of tables.old) { entries = put_entry (in_state tables.old.settings tables.old.moment (state_after e.now.state Direction.Output head.now) e.now) tables.old.entries.items } }
+    requires { tables.old.now < 2 ^ 32 }
+    ensures { state_of tables.new ≡ record (state_of tables.old) { entries = put_entry (in_state tables.old.settings tables.old.now (state_after e.now.state Direction.Output head.now) e.now) tables.old.entries.items } }
 {
     let state = state_then(e.state, Direction::Output, head);
-    let after = put_in_state(&tables.settings, tables.moment, state, e);
+    let after = put_in_state(&tables.settings, tables.now, state, e);
     put(&mut tables.entries, after);
 }
 
-fn do_answer(
+fn answer_out(
     alloc: Global,
     tables: &mut Tables,
     head: &Head,
     bytes: &[u8],
     e: Option<Entry>,
 ) -> Result<Reply, NoMemory>
-    requires now { tables.old.moment < 2 ^ 32 }
+    requires now { tables.old.now < 2 ^ 32 }
     requires read { read bytes.now ≡ Ok head.now }
     requires whole { head.now.total ≡ length bytes.now }
     requires ports { has_ports head.now ≡ true }
@@ -76,12 +76,12 @@ fn sides_of(proto: Proto, head: &Head) -> ReplySides
 }
 
 /// An outgoing packet, from its bytes to its reply.
-pub(crate) fn do_outgoing(
+pub(crate) fn handle_outgoing(
     alloc: Global,
     tables: &mut Tables,
     bytes: &[u8],
 ) -> Result<Reply, NoMemory>
-    requires { HasRoom (state_of tables.old) }
+    requires { HasHeadroom (state_of tables.old) }
     ensures ok { IfOk result (λ r. (r, state_of tables.new) ≡ outgoing (state_of tables.old) bytes.now) }
     ensures err { OnErr result (state_of tables.new ≡ state_of tables.old) }
 {
@@ -94,5 +94,5 @@ pub(crate) fn do_outgoing(
         return Ok(Reply::Pass);
     };
     let e = find_reply(&tables.entries, &sides_of(proto, &head));
-    do_answer(alloc, tables, &head, packet.whole(), e)
+    answer_out(alloc, tables, &head, packet.whole(), e)
 }

@@ -2,7 +2,7 @@
 ghost use Rattle.std.specs.Prelude.{◌≡◌};
 ghost use Rattle.lvs_model.specs.Persistence.{masked, template_key_in, template_key, takes_templates, usable, usable_server};
 
-use crate::dests::find_id;
+use crate::dests::get_dest;
 use lvs_types::{Addr, Dest, DestId, Service, ServiceKey, Settings, TemplateKey};
 
 /// The leading bits of an address, the others cleared.
@@ -66,6 +66,6 @@ pub(crate) fn find_usable(
 {
     match server {
         None => None,
-        Some(id) => if_usable(settings, find_id(dests, id)),
+        Some(id) => if_usable(settings, get_dest(dests, id)),
     }
 }

@@ -1,7 +1,7 @@
 //! A new connection: its service, its template, the pick of a server, and its entry.
 ghost use Rattle.std.specs.Prelude.{◌≡◌, ◌<◌, ◌≤◌, ◌+◌, ◌^◌, [], Some, None, map, length, slice_get, vec_len, vec_capacity};
 ghost use Rattle.lvs_flat.specs.Tables.{state_of, IsRoomy, CanEnter};
-ghost use Rattle.lvs_flat.specs.Arrivals.{packet_of, IsRead, ServesFor, ServesAll};
+ghost use Rattle.lvs_flat.specs.Packets.{packet_of, IsReadPacket, ServesFor, ServesAll};
 ghost use Rattle.lvs_flat.specs.Views.{seen_in};
 ghost use Rattle.lvs_flat.specs.TooLong.{choice_in};
 ghost use Rattle.lvs_model.specs.Lookups.{servers_of};
@@ -9,12 +9,12 @@ ghost use Rattle.lvs_types.specs.declared.dest.Dest.{Dest};
 ghost use Rattle.lvs_model.specs.LeastLoad.{AreWeighed};
 ghost use Rattle.lvs_model.specs.Counts.{candidates};
 ghost use Rattle.lvs_model.specs.Pick.{pick};
-ghost use Rattle.lvs_model.specs.Scheduling.{port_at, mark_of, state_before, new_entry, enter, is_one_packet, connect_to, new_template, replace_template, take_pick, with_cursor, pick_at, picked, schedule};
+ghost use Rattle.lvs_model.specs.Scheduling.{connection_port, mark_of, state_before, new_entry, enter, is_one_packet, connect_to, new_template, replace_template, take_pick, with_cursor, pick_at, picked, schedule};
 
-use crate::arrival::{Arrival, Lists, Rooms};
 use crate::dests::{find_nth, list_addrs, list_candidates, note_bound};
 use crate::forwarding::{direction_of, forward, push_records, put_in_state, state_then};
-use crate::packets::key_of_packet;
+use crate::headers::key_of_packet;
+use crate::packet::{Packet, Rooms, ServerLists};
 use crate::persistence::key_for;
 use crate::pick::pick_server;
 use crate::services::set_cursor;
@@ -27,8 +27,8 @@ use lvs_types::{
 };
 
 /// The port to which a connection goes.
-fn port_for(d: &Dest, head: &Head) -> u16
-    ensures { result ≡ port_at d.now head.now }
+fn connection_port(d: &Dest, head: &Head) -> u16
+    ensures { result ≡ connection_port d.now head.now }
 {
     if d.spec.port == 0 {
         head.dport
@@ -57,12 +57,12 @@ fn first_state(proto: Proto) -> Option<TcpState>
 
 fn make_entry(
     tables: &Tables,
-    p: &Arrival<'_>,
+    p: &Packet<'_>,
     service: &Service,
     d: &Dest,
     template: Option<TemplateId>,
 ) -> Entry
-    requires { tables.now.moment < 2 ^ 32 }
+    requires { tables.now.now < 2 ^ 32 }
     ensures { result ≡ new_entry (state_of tables.now) (packet_of p.now) service.now d.now template }
 {
     let state = state_then(first_state(p.proto), direction_of(d.spec.method), &p.head);
@@ -72,7 +72,7 @@ fn make_entry(
         server: Some(d.id),
         method: d.spec.method,
         daddr: d.spec.addr,
-        dport: port_for(d, &p.head),
+        dport: connection_port(d, &p.head),
         state: None,
         timeout: 0,
         deadline: 0,
@@ -80,12 +80,12 @@ fn make_entry(
         template,
         mark: mark_for(service.key),
     };
-    put_in_state(&tables.settings, tables.moment, state, &blank)
+    put_in_state(&tables.settings, tables.now, state, &blank)
 }
 
 /// The connection gets its entry, which counts at its server.
-fn do_enter(tables: &mut Tables, p: &Arrival<'_>, e: &Entry, d: &Dest, room: Vec<u8>) -> Reply
-    requires read { IsRead p.now }
+fn enter(tables: &mut Tables, p: &Packet<'_>, e: &Entry, d: &Dest, room: Vec<u8>) -> Reply
+    requires read { IsReadPacket p.now }
     requires roomy { CanEnter tables.old }
     requires empty { room.items ≡ [] }
     requires space { length p.now.bytes.now + 20 ≤ vec_capacity room }
@@ -109,15 +109,15 @@ fn leaves_no_entry(service: &Service, proto: Proto) -> bool
 }
 
 /// The packet goes to the server.
-pub(crate) fn do_connect_to(
+pub(crate) fn connect_to(
     tables: &mut Tables,
-    p: &Arrival<'_>,
+    p: &Packet<'_>,
     service: &Service,
     d: &Dest,
     template: Option<TemplateId>,
     room: Vec<u8>,
 ) -> Reply
-    requires read { IsRead p.now }
+    requires read { IsReadPacket p.now }
     requires roomy { CanEnter tables.old }
     requires empty { room.items ≡ [] }
     requires space { length p.now.bytes.now + 20 ≤ vec_capacity room }
@@ -129,17 +129,17 @@ pub(crate) fn do_connect_to(
             p,
             d.spec.method,
             d.spec.addr,
-            port_for(d, &p.head),
+            connection_port(d, &p.head),
             room,
         )
     } else {
         let e = make_entry(tables, p, service, d, template);
-        do_enter(tables, p, &e, d, room)
+        enter(tables, p, &e, d, room)
     }
 }
 
 fn make_template(tables: &Tables, key: TemplateKey, seconds: u32, d: &Dest) -> Template
-    requires { tables.now.moment < 2 ^ 32 }
+    requires { tables.now.now < 2 ^ 32 }
     ensures { result ≡ new_template (state_of tables.now) key seconds d.now }
 {
     Template {
@@ -150,12 +150,12 @@ fn make_template(tables: &Tables, key: TemplateKey, seconds: u32, d: &Dest) -> T
         daddr: d.spec.addr,
         dport: d.spec.port,
         timeout: seconds,
-        deadline: tables.moment + u64::from(seconds),
+        deadline: tables.now + u64::from(seconds),
     }
 }
 
 /// The template of the key leaves, if there is one, and this one stands last.
-fn do_replace_template(tables: &mut Tables, t: &Template)
+fn replace_template(tables: &mut Tables, t: &Template)
     requires { IsRoomy tables.old }
     ensures state { state_of tables.new ≡ replace_template t.now (state_of tables.old) }
     ensures roomy { CanEnter tables.new }
@@ -166,25 +166,25 @@ fn do_replace_template(tables: &mut Tables, t: &Template)
 }
 
 /// The picked server takes the connection; a persistent service keeps it in a new template.
-fn do_take_pick(
+fn take_pick(
     tables: &mut Tables,
-    p: &Arrival<'_>,
+    p: &Packet<'_>,
     service: &Service,
     d: &Dest,
     room: Vec<u8>,
 ) -> Reply
-    requires read { IsRead p.now }
+    requires read { IsReadPacket p.now }
     requires roomy { IsRoomy tables.old }
     requires empty { room.items ≡ [] }
     requires space { length p.now.bytes.now + 20 ≤ vec_capacity room }
     ensures { (result, state_of tables.new) ≡ take_pick (state_of tables.old) (packet_of p.now) service.now d.now service.now.persist }
 {
     match service.persist {
-        None => do_connect_to(tables, p, service, d, None, room),
+        None => connect_to(tables, p, service, d, None, room),
         Some(seconds) => {
             let t = make_template(tables, key_for(service, p.head.src), seconds, d);
-            do_replace_template(tables, &t);
-            do_connect_to(tables, p, service, d, Some(t.id), room)
+            replace_template(tables, &t);
+            connect_to(tables, p, service, d, Some(t.id), room)
         }
     }
 }
@@ -197,33 +197,33 @@ fn move_cursor(tables: &mut Tables, key: ServiceKey, cursor: Cursor)
 }
 
 /// The cursor becomes this one, and the picked server takes the connection.
-fn do_move_on(
+fn move_cursor(
     tables: &mut Tables,
-    p: &Arrival<'_>,
+    p: &Packet<'_>,
     service: &Service,
     cursor: Cursor,
     d: &Dest,
     room: Vec<u8>,
 ) -> Reply
-    requires read { IsRead p.now }
+    requires read { IsReadPacket p.now }
     requires roomy { IsRoomy tables.old }
     requires empty { room.items ≡ [] }
     requires space { length p.now.bytes.now + 20 ≤ vec_capacity room }
     ensures { (result, state_of tables.new) ≡ take_pick (with_cursor service.now.key cursor (state_of tables.old)) (packet_of p.now) service.now d.now service.now.persist }
 {
     move_cursor(tables, service.key, cursor);
-    do_take_pick(tables, p, service, d, room)
+    take_pick(tables, p, service, d, room)
 }
 
-fn do_pick_at(
+fn pick_at(
     tables: &mut Tables,
-    p: &Arrival<'_>,
+    p: &Packet<'_>,
     service: &Service,
     cursor: Cursor,
     server: Option<Dest>,
     room: Vec<u8>,
 ) -> Reply
-    requires read { IsRead p.now }
+    requires read { IsReadPacket p.now }
     requires roomy { IsRoomy tables.old }
     requires empty { room.items ≡ [] }
     requires space { length p.now.bytes.now + 20 ≤ vec_capacity room }
@@ -231,7 +231,7 @@ fn do_pick_at(
 {
     match server {
         None => Reply::Drop(DropCause::NoDest),
-        Some(d) => do_move_on(tables, p, service, cursor, &d, room),
+        Some(d) => move_cursor(tables, p, service, cursor, &d, room),
     }
 }
 
@@ -243,14 +243,14 @@ fn server_at(tables: &Tables, key: ServiceKey, place: usize) -> Option<Dest>
     find_nth(&tables.dests, key, place, AS_THEY_ARE)
 }
 
-fn do_take_choice(
+fn take_choice(
     tables: &mut Tables,
-    p: &Arrival<'_>,
+    p: &Packet<'_>,
     service: &Service,
     choice: Option<(usize, Cursor)>,
     room: Vec<u8>,
 ) -> Reply
-    requires read { IsRead p.now }
+    requires read { IsReadPacket p.now }
     requires roomy { IsRoomy tables.old }
     requires empty { room.items ≡ [] }
     requires space { length p.now.bytes.now + 20 ≤ vec_capacity room }
@@ -260,7 +260,7 @@ fn do_take_choice(
         None => Reply::Drop(DropCause::NoDest),
         Some((place, cursor)) => {
             let server = server_at(tables, service.key, place);
-            do_pick_at(tables, p, service, cursor, server, room)
+            pick_at(tables, p, service, cursor, server, room)
         }
     }
 }
@@ -269,7 +269,7 @@ fn pick_from(
     service: &Service,
     found: &Vec<Candidate>,
     addrs: &Vec<Addr>,
-    p: &Arrival<'_>,
+    p: &Packet<'_>,
 ) -> Option<(usize, Cursor)>
     requires weighed { AreWeighed found.now.items }
     requires addrs { vec_len addrs.now ≡ vec_len found.now }
@@ -306,15 +306,15 @@ fn find_addrs(tables: &Tables, key: ServiceKey, view: View, addrs: &mut Vec<Addr
 /// The place of the server that the scheduler picks among the service's, and the cursor that is left.
 pub(crate) fn choose(
     tables: &Tables,
-    p: &Arrival<'_>,
+    p: &Packet<'_>,
     service: &Service,
     view: View,
-    lists: Lists,
+    lists: ServerLists,
 ) -> Option<(usize, Cursor)>
     requires lists { ServesAll lists tables.now }
     ensures { result ≡ choice_in (seen_in view (state_of tables.now)) (packet_of p.now) service.now }
 {
-    let Lists {
+    let ServerLists {
         mut candidates,
         mut addrs,
     } = lists;
@@ -324,18 +324,18 @@ pub(crate) fn choose(
 }
 
 /// The scheduler picks, on the counts as they are now.
-pub(crate) fn do_schedule(
+pub(crate) fn schedule(
     tables: &mut Tables,
-    p: &Arrival<'_>,
+    p: &Packet<'_>,
     service: &Service,
     rooms: Rooms,
 ) -> Reply
-    requires read { IsRead p.now }
+    requires read { IsReadPacket p.now }
     requires roomy { IsRoomy tables.old }
     requires rooms { ServesFor rooms tables.old p.now }
     ensures { (result, state_of tables.new) ≡ schedule (state_of tables.old) (packet_of p.now) service.now }
 {
     let Rooms { bytes, lists } = rooms;
     let choice = choose(tables, p, service, AS_THEY_ARE, lists);
-    do_take_choice(tables, p, service, choice, bytes)
+    take_choice(tables, p, service, choice, bytes)
 }

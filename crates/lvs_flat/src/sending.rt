@@ -66,7 +66,7 @@ fn write_all(
 }
 
 /// The pending records are sent, and none stays pending.
-pub(crate) fn do_send(alloc: Global, tables: &mut Tables) -> Result<Reply, NoMemory>
+pub(crate) fn send_pending(alloc: Global, tables: &mut Tables) -> Result<Reply, NoMemory>
     requires { AllByRecursion HasOldFlags tables.old.pending.items }
     ensures ok { IfOk result (λ r. (r, state_of tables.new) ≡ send (state_of tables.old)) }
     ensures err { OnErr result (state_of tables.new ≡ state_of tables.old) }

@@ -9,7 +9,8 @@ use std::alloc::Global;
 /// The lists of the flat state, and its numbers.
 #[derive(Drop)]
 pub(crate) struct Tables {
-    pub moment: u64,
+    /// The present moment, in seconds.
+    pub now: u64,
     pub local: Addr,
     pub buckets: u32,
     pub settings: Settings,
@@ -30,7 +31,7 @@ impl Tables {
         ensures { state_of result ≡ initial local buckets }
     {
         Tables {
-            moment: 0,
+            now: 0,
             local,
             buckets,
             settings: Settings::initial(),

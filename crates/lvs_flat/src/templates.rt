@@ -22,7 +22,7 @@ pub(crate) fn find_key(templates: &[Template], key: &TemplateKey) -> Option<Temp
 }
 
 /// The template of an id.
-pub(crate) fn find_id(templates: &[Template], id: TemplateId) -> Option<Template>
+pub(crate) fn get_template(templates: &[Template], id: TemplateId) -> Option<Template>
     ensures { result ≡ template_of_id id templates.now }
 {
     for t in templates {

@@ -1,4 +1,4 @@
-//! Whole courses of the director: each step with what it answers.
+//! Whole scenarios of the director: each step with what it answers.
 ghost use Rattle.std.specs.Prelude.{IfOk};
 ghost use Rattle.lvs_model.specs.Step.{IsInRange};
 
@@ -97,7 +97,7 @@ enum Says {
     Reaped(u64, u64, u64),
     /// So many messages.
     Sent(usize),
-    /// An answer that no course here has.
+    /// An answer that no scenario here has.
     Other,
 }
 
@@ -292,9 +292,9 @@ fn said(reply: &Reply) -> Says {
     }
 }
 
-/// A course of the director.
+/// A scenario of the director.
 #[derive(Clone, Copy, Debug)]
-struct Course {
+struct Scenario {
     name: &'static str,
     steps: &'static [(Given, Says)],
 }
@@ -309,9 +309,9 @@ const ONE_PACKET: Service = Service {
     cursor: Cursor { last: None, cw: 0 },
 };
 
-/// Each rule in an ordinary course.
-const RULES: &[Course] = &[
-    Course {
+/// Each rule in an ordinary scenario.
+const RULES: &[Scenario] = &[
+    Scenario {
         name: "servers take turns",
         steps: &[
             (Given::Serve(WEB, Scheduler::Rr), Says::Done),
@@ -322,7 +322,7 @@ const RULES: &[Course] = &[
             (Given::Syn(40002), Says::To(1)),
         ],
     },
-    Course {
+    Scenario {
         name: "by weight 4, 3 and 2",
         steps: &[
             (Given::Serve(WEB, Scheduler::Wrr), Says::Done),
@@ -340,7 +340,7 @@ const RULES: &[Course] = &[
             (Given::Syn(9), Says::To(3)),
         ],
     },
-    Course {
+    Scenario {
         name: "wlc: the first added wins a tie",
         steps: &[
             (Given::Serve(WEB, Scheduler::Wlc), Says::Done),
@@ -352,7 +352,7 @@ const RULES: &[Course] = &[
             (Given::Syn(4), Says::To(1)),
         ],
     },
-    Course {
+    Scenario {
         name: "sed",
         steps: &[
             (Given::Serve(WEB, Scheduler::Sed), Says::Done),
@@ -364,7 +364,7 @@ const RULES: &[Course] = &[
             (Given::Syn(4), Says::To(2)),
         ],
     },
-    Course {
+    Scenario {
         name: "nq",
         steps: &[
             (Given::Serve(WEB, Scheduler::Nq), Says::Done),
@@ -376,7 +376,7 @@ const RULES: &[Course] = &[
             (Given::Syn(4), Says::To(1)),
         ],
     },
-    Course {
+    Scenario {
         name: "overload from 4 on, cleared below 3",
         steps: &[
             (Given::Serve(WEB, Scheduler::Rr), Says::Done),
@@ -396,7 +396,7 @@ const RULES: &[Course] = &[
             (Given::Syn(7), Says::To(1)),
         ],
     },
-    Course {
+    Scenario {
         name: "a removed server's connections wait for it",
         steps: &[
             (Given::Serve(WEB, Scheduler::Rr), Says::Done),
@@ -408,7 +408,7 @@ const RULES: &[Course] = &[
             (Given::Ack(40000), Says::To(1)),
         ],
     },
-    Course {
+    Scenario {
         name: "or end with the first packet",
         steps: &[
             (Given::Set(Setting::ExpireNodest(1)), Says::Done),
@@ -420,7 +420,7 @@ const RULES: &[Course] = &[
             (Given::Ack(40000), Says::Passed),
         ],
     },
-    Course {
+    Scenario {
         name: "a datagram's entry is due at 300",
         steps: &[
             (Given::Serve(NAMES, Scheduler::Rr), Says::Done),
@@ -432,7 +432,7 @@ const RULES: &[Course] = &[
             (Given::Sweep, Says::Swept(1)),
         ],
     },
-    Course {
+    Scenario {
         name: "too long for the tunnel, and the turn stays",
         steps: &[
             (Given::Serve(NAMES, Scheduler::Rr), Says::Done),
@@ -442,7 +442,7 @@ const RULES: &[Course] = &[
             (Given::Datagram(65515), Says::To(1)),
         ],
     },
-    Course {
+    Scenario {
         name: "a due template waits for its connection",
         steps: &[
             (Given::Persist(300), Says::Done),
@@ -460,7 +460,7 @@ const RULES: &[Course] = &[
             (Given::Reap, Says::Reaped(1, 0, 0)),
         ],
     },
-    Course {
+    Scenario {
         name: "a backup takes connections over",
         steps: &[
             (Given::Serve(WEB, Scheduler::Wlc), Says::Done),
@@ -474,7 +474,7 @@ const RULES: &[Course] = &[
             (Given::Ack(40000), Says::To(1)),
         ],
     },
-    Course {
+    Scenario {
         name: "a SYN takes up a connection in TIME_WAIT",
         steps: &[
             (Given::Serve(WEB, Scheduler::Rr), Says::Done),
@@ -485,7 +485,7 @@ const RULES: &[Course] = &[
             (Given::Syn(40000), Says::To(2)),
         ],
     },
-    Course {
+    Scenario {
         name: "not in reuse mode 0",
         steps: &[
             (Given::Set(Setting::ReuseMode(0)), Says::Done),
@@ -497,7 +497,7 @@ const RULES: &[Course] = &[
             (Given::Syn(40000), Says::To(1)),
         ],
     },
-    Course {
+    Scenario {
         name: "two entries of one reply: the older answers",
         steps: &[
             (Given::Serve(WEB, Scheduler::Rr), Says::Done),
@@ -509,7 +509,7 @@ const RULES: &[Course] = &[
             (Given::Answer, Says::From(1)),
         ],
     },
-    Course {
+    Scenario {
         name: "without weight a server keeps its connections",
         steps: &[
             (Given::Serve(WEB, Scheduler::Rr), Says::Done),
@@ -520,7 +520,7 @@ const RULES: &[Course] = &[
             (Given::Syn(40001), Says::Dropped(DropCause::NoDest)),
         ],
     },
-    Course {
+    Scenario {
         name: "a removed server is released once nothing names it",
         steps: &[
             (Given::Serve(WEB, Scheduler::Rr), Says::Done),
@@ -532,7 +532,7 @@ const RULES: &[Course] = &[
             (Given::Reap, Says::Reaped(0, 0, 1)),
         ],
     },
-    Course {
+    Scenario {
         name: "sh: slot 23",
         steps: &[
             (Given::Serve(WEB, Scheduler::Sh), Says::Done),
@@ -542,7 +542,7 @@ const RULES: &[Course] = &[
             (Given::Syn(40001), Says::To(2)),
         ],
     },
-    Course {
+    Scenario {
         name: "dh: slot 136",
         steps: &[
             (Given::Serve(WEB, Scheduler::Dh), Says::Done),
@@ -552,7 +552,7 @@ const RULES: &[Course] = &[
             (Given::Syn(40000), Says::To(2)),
         ],
     },
-    Course {
+    Scenario {
         name: "refusals",
         steps: &[
             (Given::Add(1, 1), Says::Refused(EditRefused::NoService)),
@@ -572,7 +572,7 @@ const RULES: &[Course] = &[
             ),
         ],
     },
-    Course {
+    Scenario {
         name: "a packet of no connection",
         steps: &[
             (Given::Serve(WEB, Scheduler::Rr), Says::Done),
@@ -583,8 +583,8 @@ const RULES: &[Course] = &[
 ];
 
 /// Where rules meet.
-const CORNERS: &[Course] = &[
-    Course {
+const CORNERS: &[Scenario] = &[
+    Scenario {
         name: "an unbound entry meets its server later",
         steps: &[
             (Given::Edit(Command::StartBackup(0)), Says::Done),
@@ -597,7 +597,7 @@ const CORNERS: &[Course] = &[
             (Given::Ack(40000), Says::Dropped(DropCause::Gone)),
         ],
     },
-    Course {
+    Scenario {
         name: "a SYN too long for the tunnel takes no connection's place",
         steps: &[
             (Given::Serve(WEB, Scheduler::Rr), Says::Done),
@@ -610,7 +610,7 @@ const CORNERS: &[Course] = &[
             (Given::Syn(40000), Says::To(2)),
         ],
     },
-    Course {
+    Scenario {
         name: "a template whose server came back",
         steps: &[
             (Given::Persist(300), Says::Done),
@@ -622,7 +622,7 @@ const CORNERS: &[Course] = &[
             (Given::Syn(2), Says::To(1)),
         ],
     },
-    Course {
+    Scenario {
         name: "a template whose server came back too late",
         steps: &[
             (Given::Persist(300), Says::Done),
@@ -635,7 +635,7 @@ const CORNERS: &[Course] = &[
             (Given::Syn(3), Says::To(2)),
         ],
     },
-    Course {
+    Scenario {
         name: "a record with another server",
         steps: &[
             (Given::Serve(WEB, Scheduler::Rr), Says::Done),
@@ -647,7 +647,7 @@ const CORNERS: &[Course] = &[
             (Given::Ack(40000), Says::To(2)),
         ],
     },
-    Course {
+    Scenario {
         name: "pending records are sent",
         steps: &[
             (Given::Edit(Command::StartMaster(7)), Says::Done),
@@ -659,7 +659,7 @@ const CORNERS: &[Course] = &[
             (Given::Send, Says::Sent(0)),
         ],
     },
-    Course {
+    Scenario {
         name: "and dropped where the master stops",
         steps: &[
             (Given::Edit(Command::StartMaster(7)), Says::Done),
@@ -672,7 +672,7 @@ const CORNERS: &[Course] = &[
             (Given::Send, Says::Sent(0)),
         ],
     },
-    Course {
+    Scenario {
         name: "a mark goes before an address",
         steps: &[
             (Given::Serve(WEB, Scheduler::Rr), Says::Done),
@@ -687,7 +687,7 @@ const CORNERS: &[Course] = &[
             (Given::Syn(40002), Says::To(1)),
         ],
     },
-    Course {
+    Scenario {
         name: "expire_nodest_conn ends a connection without weight at its SYN",
         steps: &[
             (Given::Set(Setting::ExpireNodest(1)), Says::Done),
@@ -700,7 +700,7 @@ const CORNERS: &[Course] = &[
             (Given::Ack(1), Says::Passed),
         ],
     },
-    Course {
+    Scenario {
         name: "each datagram of a one-packet service is scheduled",
         steps: &[
             (Given::Edit(Command::AddService(ONE_PACKET)), Says::Done),
@@ -725,7 +725,7 @@ fn step(alloc: Global, flat: &mut Flat, item: &Item) -> Result<Says, NoMemory>
 }
 
 /// The first step of the course that was answered otherwise, with its answer.
-fn first_other(alloc: Global, course: Course) -> Result<Option<(usize, Says)>, NoMemory> {
+fn first_other(alloc: Global, course: Scenario) -> Result<Option<(usize, Says)>, NoMemory> {
     let mut flat = Flat::new(
         alloc,
         Addr {

@@ -1,26 +1,26 @@
 //! Whether a packet is too long for its tunnel: told before anything changes, and by reading alone.
 ghost use Rattle.std.specs.Prelude.{◌≡◌, ◌≤◌, ◌*◌, vec_len};
 ghost use Rattle.lvs_flat.specs.Tables.{state_of};
-ghost use Rattle.lvs_flat.specs.Arrivals.{packet_of, ServesAll};
+ghost use Rattle.lvs_flat.specs.Packets.{packet_of, ServesAll};
 ghost use Rattle.lvs_flat.specs.Views.{seen_in};
-ghost use Rattle.lvs_flat.specs.TooLong.{AreApart, says_too_long, exceeds_to, choice_in, exceeds_choice, exceeds_pick, exceeds_used, exceeds_tried, exceeds_template, exceeds_service, exceeds_connection, overload_left, view_after, dest_bound, bound_with, bound_in, exceeds_bound, exceeds_arrived};
+ghost use Rattle.lvs_flat.specs.TooLong.{HaveDistinctIds, says_too_long, exceeds_to, choice_in, exceeds_choice, exceeds_pick, exceeds_used, exceeds_tried, exceeds_template, exceeds_service, exceeds_connection, overload_left, view_after, dest_bound, bound_with, bound_in, exceeds_bound, exceeds_arrived};
 ghost use Rattle.lvs_model.specs.Counts.{total};
 ghost use Rattle.lvs_model.specs.Lists.{without};
 ghost use Rattle.lvs_model.specs.Lookups.{entry_at, has_entry_id};
 ghost use Rattle.lvs_model.specs.Packets.{key_of};
 ghost use Rattle.lvs_model.specs.Incoming.{arrive};
 
-use crate::arrival::{Arrival, Lists};
 use crate::binding::{bound, find_for_entry, tried};
-use crate::dests::{find_id, find_nth, reaches, relieved};
+use crate::dests::{find_nth, get_dest, reaches, relieved};
 use crate::entries::find_key;
 use crate::forwarding::exceeds;
-use crate::incoming::standing_of;
-use crate::packets::{connects, key_of_packet};
+use crate::headers::{connects, key_of_packet};
+use crate::known_connection::standing_of;
+use crate::new_connection::usable_now;
+use crate::packet::{Packet, ServerLists};
 use crate::persistence::key_for;
 use crate::scheduling::choose;
 use crate::services::find_packet_service;
-use crate::serving::usable_now;
 use crate::tables::Tables;
 use crate::templates::find_key as find_template;
 use crate::view::{AS_THEY_ARE, Overload, View, count_active_in, count_inactive_in};
@@ -28,7 +28,7 @@ use lvs_model::incoming::Standing;
 use lvs_types::{Cursor, Dest, DestId, Entry, Service, Template};
 
 /// Whether the packet would be too long for a tunnel to the server, if there is one.
-fn exceeds_at(p: &Arrival<'_>, server: Option<Dest>) -> bool
+fn exceeds_at(p: &Packet<'_>, server: Option<Dest>) -> bool
     ensures { result ≡ exceeds_to p.now.head server }
 {
     match server {
@@ -39,7 +39,7 @@ fn exceeds_at(p: &Arrival<'_>, server: Option<Dest>) -> bool
 
 fn exceeds_chosen(
     tables: &Tables,
-    p: &Arrival<'_>,
+    p: &Packet<'_>,
     service: &Service,
     view: View,
     choice: Option<(usize, Cursor)>,
@@ -55,10 +55,10 @@ fn exceeds_chosen(
 /// The scheduler picks, on the counts as the view shows them, and the cursor stays.
 fn exceeds_picked(
     tables: &Tables,
-    p: &Arrival<'_>,
+    p: &Packet<'_>,
     service: &Service,
     view: View,
-    lists: Lists,
+    lists: ServerLists,
 ) -> bool
     requires lists { ServesAll lists tables.now }
     ensures { result ≡ exceeds_pick (seen_in view (state_of tables.now)) (packet_of p.now) service.now }
@@ -69,11 +69,11 @@ fn exceeds_picked(
 
 fn exceeds_usable(
     tables: &Tables,
-    p: &Arrival<'_>,
+    p: &Packet<'_>,
     service: &Service,
     view: View,
     server: Option<Dest>,
-    lists: Lists,
+    lists: ServerLists,
 ) -> bool
     requires lists { ServesAll lists tables.now }
     ensures { result ≡ exceeds_used (exceeds_pick (seen_in view (state_of tables.now)) (packet_of p.now) service.now) p.now.head server }
@@ -87,11 +87,11 @@ fn exceeds_usable(
 /// A template that was tried gives its server, or the scheduler picks.
 fn exceeds_by_template(
     tables: &Tables,
-    p: &Arrival<'_>,
+    p: &Packet<'_>,
     service: &Service,
     view: View,
     t: Template,
-    lists: Lists,
+    lists: ServerLists,
 ) -> bool
     requires lists { ServesAll lists tables.now }
     ensures { result ≡ exceeds_template (seen_in view (state_of tables.now)) (packet_of p.now) service.now (Some t) }
@@ -103,10 +103,10 @@ fn exceeds_by_template(
 
 fn exceeds_served(
     tables: &Tables,
-    p: &Arrival<'_>,
+    p: &Packet<'_>,
     service: &Service,
     view: View,
-    lists: Lists,
+    lists: ServerLists,
 ) -> bool
     requires lists { ServesAll lists tables.now }
     ensures { result ≡ exceeds_service (seen_in view (state_of tables.now)) (packet_of p.now) service.now service.now.persist }
@@ -121,7 +121,7 @@ fn exceeds_served(
 }
 
 /// Whether a packet of no connection is too long.
-fn exceeds_connected(tables: &Tables, p: &Arrival<'_>, view: View, lists: Lists) -> bool
+fn exceeds_connected(tables: &Tables, p: &Packet<'_>, view: View, lists: ServerLists) -> bool
     requires lists { ServesAll lists tables.now }
     ensures { result ≡ exceeds_connection (seen_in view (state_of tables.now)) (packet_of p.now) }
 {
@@ -204,7 +204,7 @@ fn as_bound(tables: &Tables, e: Entry) -> Bound
     match e.server {
         Some(id) => Bound {
             entry: e,
-            server: find_id(&tables.dests, id),
+            server: get_dest(&tables.dests, id),
         },
         None => {
             let server = find_for_entry(&tables.services, &tables.dests, &e);
@@ -214,7 +214,7 @@ fn as_bound(tables: &Tables, e: Entry) -> Bound
 }
 
 /// Whether a packet whose entry is there is too long.
-fn exceeds_known(tables: &Tables, p: &Arrival<'_>, b: &Bound, lists: Lists) -> bool
+fn exceeds_known(tables: &Tables, p: &Packet<'_>, b: &Bound, lists: ServerLists) -> bool
     requires lists { ServesAll lists tables.now }
     ensures { result ≡ exceeds_bound (state_of tables.now) (packet_of p.now) b.now }
 {
@@ -228,7 +228,12 @@ fn exceeds_known(tables: &Tables, p: &Arrival<'_>, b: &Bound, lists: Lists) -> b
     }
 }
 
-fn exceeds_arriving(tables: &Tables, p: &Arrival<'_>, entry: Option<Entry>, lists: Lists) -> bool
+fn exceeds_arriving(
+    tables: &Tables,
+    p: &Packet<'_>,
+    entry: Option<Entry>,
+    lists: ServerLists,
+) -> bool
     requires lists { ServesAll lists tables.now }
     ensures { result ≡ exceeds_arrived (state_of tables.now) (packet_of p.now) entry }
 {
@@ -239,9 +244,9 @@ fn exceeds_arriving(tables: &Tables, p: &Arrival<'_>, entry: Option<Entry>, list
 }
 
 /// Whether the packet is too long for its tunnel.
-pub(crate) fn is_too_long(tables: &Tables, p: &Arrival<'_>, lists: Lists) -> bool
+pub(crate) fn is_too_long(tables: &Tables, p: &Packet<'_>, lists: ServerLists) -> bool
     requires lists { ServesAll lists tables.now }
-    requires apart { AreApart (state_of tables.now) }
+    requires apart { HaveDistinctIds (state_of tables.now) }
     ensures { result ≡ says_too_long (arrive (state_of tables.now) (packet_of p.now) (entry_at (key_of p.now.proto p.now.head) tables.now.entries.items)).0 }
 {
     let entry = find_key(&tables.entries, &key_of_packet(p.proto, &p.head));

@@ -16,7 +16,7 @@ use Rattle.lvs_model.specs.Packets.{Packet, may_connect}
 use Rattle.lvs_model.specs.Binding.{put_template, template_tried, bound_to, bind_entry, try_binding, server_for_entry}
 use Rattle.lvs_model.specs.Persistence.{template_key, usable_server}
 use Rattle.lvs_model.specs.Forwarding.{forwarded}
-use Rattle.lvs_model.specs.Scheduling.{connect_to, enter, new_entry, port_at, is_one_packet, with_cursor, new_template, replace_template, take_pick, pick_at, picked, schedule, renewed, use_template, persist_by, serve_packet, admit, connect}
+use Rattle.lvs_model.specs.Scheduling.{connect_to, enter, new_entry, connection_port, is_one_packet, with_cursor, new_template, replace_template, take_pick, pick_at, picked, schedule, renewed, use_template, persist_by, serve_packet, admit, connect}
 use Rattle.lvs_well_formed.proofs.Entries.{IsEntryOf}
 use Rattle.lvs_laws.specs.Keeping.{IsSameConnection, entry_of_id, met}
 use Rattle.lvs_laws.proofs.Kept.{IsKept, same_self, put_else, push_else, put_kept}
@@ -73,7 +73,7 @@ connect_by false id s r entered same = same
 connect_to_same : (s : State) (p : Packet) (service : Service) (d : Dest) (template : Option TemplateId) (id : ℕ) → (s.next_entry == id) ≡ false → FindsSame id s (connect_to s p service d template).1
 connect_to_same s p service d template id differs =
     let e : Entry = new_entry s p service d template in
-    connect_by (is_one_packet service p.proto) id s (forwarded s p d.spec.method d.spec.addr (port_at d p.head)) (enter s p e d) (push_else e s.entries id differs)
+    connect_by (is_one_packet service p.proto) id s (forwarded s p d.spec.method d.spec.addr (connection_port d p.head)) (enter s p e d) (push_else e s.entries id differs)
 
 take_pick_same : (s : State) (p : Packet) (service : Service) (d : Dest) (o : Option ℕ) (id : ℕ) → (s.next_entry == id) ≡ false → FindsSame id s (take_pick s p service d o).1
 take_pick_same s p service d None id differs = connect_to_same s p service d None id differs

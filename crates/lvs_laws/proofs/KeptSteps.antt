@@ -61,12 +61,12 @@ never_back s items id w below none =
 -- it leaves by a later item
 leaves_later : (s : State) (e now : Entry) (next : Item) (items : List Item) → IsSameConnection e now → LeavesIn (step s next).1 now items → LeavesIn s e (next ∷ items)
 leaves_later s e now next items same l = record {
-  front = next ∷ l.front;
+  prefix = next ∷ l.prefix;
   leaves_by = l.leaves_by;
   rest = l.rest;
   cut = ap (λ later. next ∷ later) l.cut;
   last = l.last;
-  there = subst (λ id. entry_of_id id (run (step s next).1 l.front).1.entries ≡ Some l.last) same.id l.there;
+  there = subst (λ id. entry_of_id id (run (step s next).1 l.prefix).1.entries ≡ Some l.last) same.id l.there;
   same = same_then e now l.last same l.same;
   leaves = l.leaves;
 }
@@ -80,7 +80,7 @@ run_by s e next items None w found is left goes_on =
     let below : e.id < t.next_entry = let first = drawn_below s e (parts_of s w) found in let rises = (step_rises s next w).entries.next_id in omega (arith, first, rises) in
     let gone = never_back t items e.id (step_well_formed s next w) below is in
     subst (IsKeptUnless (LeavesIn s e (next ∷ items)) e) (sym gone)
-    (record { front = []; leaves_by = next; rest = items; cut = refl; last = e; there = found; same = same_self e; leaves = left })
+    (record { prefix = []; leaves_by = next; rest = items; cut = refl; last = e; there = found; same = same_self e; leaves = left })
 run_by s e next items (Some now) w found is same goes_on =
     let k : IsKept e (step s next).1.entries = record { later = now; found = is; same = same } in
     then_kept (LeavesIn s e (next ∷ items)) e (step s next).1.entries (run s (next ∷ items)).1.entries k

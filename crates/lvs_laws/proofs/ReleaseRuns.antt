@@ -21,7 +21,7 @@ same_then a b c first then = record { id = then.id ∙ first.id; service = then.
 -- released by the first of the items
 released_first : (s : State) (next : Item) (items : List Item) (d : Dest) → IsServerOf s d → StaysOrIsReleased s next d None → IsGone (step s next).1 d.id → IsReleasedAmong s (next ∷ items) d
 released_first s next items d found released left = record {
-  front = [];
+  prefix = [];
   next = next;
   rest = items;
   splits = refl;
@@ -35,15 +35,15 @@ released_first s next items d found released left = record {
 -- released by a later one
 released_later : (s : State) (next : Item) (items : List Item) (d later : Dest) → IsSameServer d later → IsReleasedAmong (step s next).1 items later → IsReleasedAmong s (next ∷ items) d
 released_later s next items d later same among = record {
-  front = next ∷ among.front;
+  prefix = next ∷ among.prefix;
   next = among.next;
   rest = among.rest;
   splits = ap (λ (is : List Item). next ∷ is) among.splits;
   server = among.server;
-  there = subst (λ i. dest_at i (run s (next ∷ among.front)).1.dests ≡ Some among.server) same.id among.there;
+  there = subst (λ i. dest_at i (run s (next ∷ among.prefix)).1.dests ≡ Some among.server) same.id among.there;
   same = same_then d later among.server same among.same;
   released = among.released;
-  left = subst (λ i. IsGone (step (run s (next ∷ among.front)).1 among.next).1 i) same.id among.left;
+  left = subst (λ i. IsGone (step (run s (next ∷ among.prefix)).1 among.next).1 i) same.id among.left;
 }
 
 found_later : (ds : List Dest) (d later : Dest) → IsSameServer d later → dest_at d.id ds ≡ Some later → dest_at later.id ds ≡ Some later

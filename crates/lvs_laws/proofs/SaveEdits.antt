@@ -19,7 +19,7 @@ use Rattle.lvs_model.specs.Same.{service_key_eq, dest_eq}
 use Rattle.lvs_model.specs.Lists.{without}
 use Rattle.lvs_model.specs.Reading.{read}
 use Rattle.lvs_model.specs.Lookups.{has_dest_id, has_service_key, is_server_of, is_server_at, stands_at, servers_of}
-use Rattle.lvs_model.specs.Edits.{edit, fresh, fresh_cursor, is_service, is_server, add_service_by, edit_service_by, remove_service_by, remove_dests, leaving, clear, add_server_by, place_server, is_revivable, new_dest, revived, edit_server_by, respecified, server_before, step_back, remove_server_by, remove_server_at, start_master, start_backup, stop_master, stop_backup}
+use Rattle.lvs_model.specs.Edits.{edit, with_fresh_cursor, fresh_cursor, is_service, is_server, add_service_by, edit_service_by, remove_service_by, remove_dests, leaving, clear, add_server_by, place_server, is_revivable, new_dest, revived, edit_server_by, respecified, server_before, step_back, remove_server_by, remove_server_at, start_master, start_backup, stop_master, stop_backup}
 use Rattle.lvs_model.specs.Clock.{is_swept, after_ends, is_named_in, is_released, reaped_templates, sweep, reap}
 use Rattle.lvs_model.specs.Step.{step, run}
 use Rattle.lvs_well_formed.proofs.Lists.{all_weaker, all_map, all_push, all_filter, all_filter_map, all_update, find_passes}
@@ -34,14 +34,14 @@ use Rattle.lvs_laws.proofs.SavePackets.{Keeps, keeps_itself, with_cursor_sayable
 add_service_keeps : (s : State) (service : Service) (b : Bool) → IsSayableService service → Keeps s (add_service_by s service b).1
 add_service_keeps s service true is are = are
 add_service_keeps s service false is are = record {
-  services = all_push IsSayableService s.services (fresh service) are.services (with_cursor_sayable service fresh_cursor is);
+  services = all_push IsSayableService s.services (with_fresh_cursor service) are.services (with_cursor_sayable service fresh_cursor is);
   servers = are.servers;
 }
 
 edit_service_keeps : (s : State) (service : Service) (b : Bool) → IsSayableService service → Keeps s (edit_service_by s service b).1
 edit_service_keeps s service false is are = are
 edit_service_keeps s service true is are = record {
-  services = all_update IsSayableService (has_service_key service.key) (λ _. fresh service) s.services (λ old here _. with_cursor_sayable service fresh_cursor is) are.services;
+  services = all_update IsSayableService (has_service_key service.key) (λ _. with_fresh_cursor service) s.services (λ old here _. with_cursor_sayable service fresh_cursor is) are.services;
   servers = are.servers;
 }
 

@@ -17,12 +17,12 @@ use Rattle.lvs_model.specs.declared.admin.CommandName.TheVariants.{AddService, E
 use Rattle.lvs_model.specs.declared.admin.DaemonRole.{DaemonRole}
 use Rattle.lvs_model.specs.declared.admin.DaemonRole.TheVariants.{Master, Backup}
 use Rattle.lvs_model.specs.declared.admin.GivenService.{GivenService}
-use Rattle.lvs_model.specs.declared.admin.Endpoint.{Endpoint}
+use Rattle.lvs_model.specs.declared.admin.GivenEndpoint.{GivenEndpoint}
 use Rattle.lvs_model.specs.declared.admin.WordsRead.{WordsRead}
 use Rattle.lvs_model.specs.declared.admin.BadWord.{BadWord}
 use Rattle.lvs_model.specs.Refusals.{◌>>=◌, refused, needed, forbidden}
 use Rattle.lvs_model.specs.Same.{method_eq}
-use Rattle.lvs_model.specs.AdminWords.{is_tcp, split_words, take_all}
+use Rattle.lvs_model.specs.AdminWords.{is_tcp_service, split_words, take_all}
 use Rattle.lvs_model.specs.AdminLines.{settled, checked_mask, checked_one_packet, checked_port, is_portless, service_of, read_service, service_port, server_port, server_of, read_server, server_removed, started, stopped, daemon_started, daemon_stopped, line_read, line_of_words}
 use Rattle.lvs_listing.specs.Savable.{IsSayableKey, IsSayablePersistence, IsSayableService}
 use Rattle.lvs_laws.specs.Saying.{IsSayableSpec, IsSayableCommand}
@@ -60,7 +60,7 @@ service_said count r service e w =
     let said : IsSayableService (service_of g.key r) = record {
       key = if_given (λ (x : GivenService). IsSayableKey x.key) r.service g (needed_some count cause.Missing r.service g given.1) w.given;
       persistence = persistence_said r.persist r.netmask_at r.mask_bits (is_portless g.key) g.at mask.0 port.0 w.lasts w.bits (λ none. (w.masked none).0) mask.1 port.1;
-      one_packet = one_packet_said (is_tcp g.key) r.one_packet_at one_packet.0 one_packet.1;
+      one_packet = one_packet_said (is_tcp_service g.key) r.one_packet_at one_packet.0 one_packet.1;
     } in
     subst (λ (x : Service). IsSayableService x) same said
 
@@ -84,7 +84,7 @@ port_same Masq key port differs = absurd cc
 port_same Tunnel key port differs = refl
 port_same Direct key port differs = refl
 
-spec_said : (method : Method) (key : ServiceKey) (endpoint : Endpoint) (r : WordsRead) → IsSayableKey key → IsSayableEndpoint endpoint → IsSayableRead r → IsSayableSpec key (server_of method key endpoint r)
+spec_said : (method : Method) (key : ServiceKey) (endpoint : GivenEndpoint) (r : WordsRead) → IsSayableKey key → IsSayableEndpoint endpoint → IsSayableRead r → IsSayableSpec key (server_of method key endpoint r)
 spec_said method key endpoint r is stands w = record {
   addr = stands.0;
   port = port_said method key endpoint.port is stands.1;
@@ -96,9 +96,9 @@ spec_said method key endpoint r is stands w = record {
 
 server_said : (count : ℕ) (r : WordsRead) (server : ServiceKey × DestSpec) → read_server count r ≡ Ok server → IsSayableRead r → IsSayableSpec server.0 server.1
 server_said count r server e w =
-    let given = then_ok (needed count cause.Missing r.service) (λ (g : GivenService). needed count cause.Missing r.server >>= (λ (x : Endpoint). Ok (g.key, server_of (unwrap_or r.method Direct) g.key x r))) server e in
+    let given = then_ok (needed count cause.Missing r.service) (λ (g : GivenService). needed count cause.Missing r.server >>= (λ (x : GivenEndpoint). Ok (g.key, server_of (unwrap_or r.method Direct) g.key x r))) server e in
     let g = given.0 in
-    let endpoint = then_ok (needed count cause.Missing r.server) (λ (x : Endpoint). Ok (g.key, server_of (unwrap_or r.method Direct) g.key x r)) server given.2 in
+    let endpoint = then_ok (needed count cause.Missing r.server) (λ (x : GivenEndpoint). Ok (g.key, server_of (unwrap_or r.method Direct) g.key x r)) server given.2 in
     let made : ServiceKey × DestSpec = (g.key, server_of (unwrap_or r.method Direct) g.key endpoint.0 r) in
     let same : made ≡ server = cc in
     subst (λ (x : ServiceKey × DestSpec). IsSayableSpec x.0 x.1) same
@@ -148,9 +148,9 @@ line_said count r EditServer line e w =
     line_is (Edit (command.EditServer server.0.0 server.0.1)) line server.2 (server_said count r server.0 server.1 w)
 line_said count r DeleteServer line e w =
     let removed = then_ok (server_removed count r) edit_of line e in
-    let given = then_ok (needed count cause.Missing r.service) (λ (g : GivenService). needed count cause.Missing r.server >>= (λ (x : Endpoint). Ok (command.RemoveServer g.key x.addr (unwrap_or x.port (service_port g.key))))) removed.0 removed.1 in
+    let given = then_ok (needed count cause.Missing r.service) (λ (g : GivenService). needed count cause.Missing r.server >>= (λ (x : GivenEndpoint). Ok (command.RemoveServer g.key x.addr (unwrap_or x.port (service_port g.key))))) removed.0 removed.1 in
     let g = given.0 in
-    let endpoint = then_ok (needed count cause.Missing r.server) (λ (x : Endpoint). Ok (command.RemoveServer g.key x.addr (unwrap_or x.port (service_port g.key)))) removed.0 given.2 in
+    let endpoint = then_ok (needed count cause.Missing r.server) (λ (x : GivenEndpoint). Ok (command.RemoveServer g.key x.addr (unwrap_or x.port (service_port g.key)))) removed.0 given.2 in
     line_is (Edit removed.0) line removed.2 (command_is (command.RemoveServer g.key endpoint.0.addr (unwrap_or endpoint.0.port (service_port g.key))) removed.0 endpoint.2 tt)
 line_said count r ListTables line e w = line_is (Show _) line e tt
 line_said count r SaveTables line e w = line_is (Show _) line e tt

@@ -3,7 +3,7 @@ use Rattle.std.proofs.Common.{◌≡◌, ℕ, ◌+◌, ◌*◌, ◌^◌, ◌≤�
 use Rattle.std.proofs.lemmas.Bool.{leb-true}
 use Rattle.std.specs.List.{AllByRecursion, list_all}
 use Rattle.lvs_types.specs.declared.addr.Addr.{Addr}
-use Rattle.lvs_model.specs.declared.admin.Endpoint.{Endpoint}
+use Rattle.lvs_model.specs.declared.admin.GivenEndpoint.{GivenEndpoint}
 use Rattle.lvs_model.specs.Decimals.{number_of, is_number, value_after, number_between, cut_at, addr_of, port_of, endpoint_cut, endpoint_of, mask_lengths, is_mask, mask_bits_of, mask_of}
 use Rattle.lvs_well_formed.proofs.Lists.{all_find}
 
@@ -76,26 +76,26 @@ addr_small word addr e =
     let low : made.number < 2 ^ 32 = omega (arith, number_small 3 255 first.0.0 a.0 a.1, number_small 3 255 second.0.0 b.0 b.1, number_small 3 255 third.0.0 c.0 c.1, number_small 3 255 third.0.1 d.0 d.1) in
     subst (λ (x : Addr). x.number < 2 ^ 32) same low
 
-abbrev pub IsSayableEndpoint : Endpoint → Type 0
+abbrev pub IsSayableEndpoint : GivenEndpoint → Type 0
 IsSayableEndpoint endpoint = (endpoint.addr.number < 2 ^ 32) × IfGiven (λ port. port < 2 ^ 16) endpoint.port
 
 port_small : (word : List ℕ) (port : ℕ) → port_of word ≡ Some port → port < 2 ^ 16
 port_small word port e = omega (arith, number_small 5 65535 word port e)
 
-endpoint_parts : (word : List ℕ) (o : Option (List ℕ × List ℕ)) (endpoint : Endpoint) → endpoint_cut word o ≡ Some endpoint → IsSayableEndpoint endpoint
+endpoint_parts : (word : List ℕ) (o : Option (List ℕ × List ℕ)) (endpoint : GivenEndpoint) → endpoint_cut word o ≡ Some endpoint → IsSayableEndpoint endpoint
 endpoint_parts word None endpoint e =
-    let addr = some_parts (addr_of word) (λ (a : Addr). let whole : Endpoint = record { addr = a; port = None } in Some whole) endpoint e in
-    let made : Endpoint = record { addr = addr.0; port = None } in
+    let addr = some_parts (addr_of word) (λ (a : Addr). let whole : GivenEndpoint = record { addr = a; port = None } in Some whole) endpoint e in
+    let made : GivenEndpoint = record { addr = addr.0; port = None } in
     let same : made ≡ endpoint = cc in
     subst IsSayableEndpoint same (addr_small word addr.0 addr.1, tt)
 endpoint_parts word (Some parts) endpoint e =
-    let addr = some_parts (addr_of parts.0) (λ (a : Addr). then_some (port_of parts.1) (λ (p : ℕ). let whole : Endpoint = record { addr = a; port = Some p } in Some whole)) endpoint e in
-    let port = some_parts (port_of parts.1) (λ (p : ℕ). let whole : Endpoint = record { addr = addr.0; port = Some p } in Some whole) endpoint addr.2 in
-    let made : Endpoint = record { addr = addr.0; port = Some port.0 } in
+    let addr = some_parts (addr_of parts.0) (λ (a : Addr). then_some (port_of parts.1) (λ (p : ℕ). let whole : GivenEndpoint = record { addr = a; port = Some p } in Some whole)) endpoint e in
+    let port = some_parts (port_of parts.1) (λ (p : ℕ). let whole : GivenEndpoint = record { addr = addr.0; port = Some p } in Some whole) endpoint addr.2 in
+    let made : GivenEndpoint = record { addr = addr.0; port = Some port.0 } in
     let same : made ≡ endpoint = cc in
     subst IsSayableEndpoint same (addr_small parts.0 addr.0 addr.1, port_small parts.1 port.0 port.1)
 
-pub endpoint_small : (word : List ℕ) (endpoint : Endpoint) → endpoint_of word ≡ Some endpoint → IsSayableEndpoint endpoint
+pub endpoint_small : (word : List ℕ) (endpoint : GivenEndpoint) → endpoint_of word ≡ Some endpoint → IsSayableEndpoint endpoint
 endpoint_small word endpoint e = endpoint_parts word (cut_at 58 word) endpoint e
 
 -- MASKS

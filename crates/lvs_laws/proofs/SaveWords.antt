@@ -16,13 +16,13 @@ use Rattle.lvs_model.specs.declared.admin.Awaited.{Awaited}
 use Rattle.lvs_model.specs.declared.admin.Awaited.TheVariants.{AnOption, ValueOf, EstablishedTimeout, FinWaitTimeout, UdpTimeout, Role}
 use Rattle.lvs_model.specs.declared.admin.DaemonRole.{DaemonRole}
 use Rattle.lvs_model.specs.declared.admin.GivenService.{GivenService}
-use Rattle.lvs_model.specs.declared.admin.Endpoint.{Endpoint}
+use Rattle.lvs_model.specs.declared.admin.GivenEndpoint.{GivenEndpoint}
 use Rattle.lvs_model.specs.declared.admin.WordsRead.{WordsRead}
 use Rattle.lvs_model.specs.declared.admin.BadWord.{BadWord}
 use Rattle.lvs_model.specs.Refusals.{◌>>=◌, needed}
 use Rattle.lvs_model.specs.Decimals.{is_number, number_between, endpoint_of, mask_of}
 use Rattle.lvs_model.specs.AdminTables.{command_of, option_of, allows}
-use Rattle.lvs_model.specs.AdminWords.{is_dashed, is_given, is_second, with_option, take_named, take_option, service_at, role_of, with_service, take_value, take_awaited, take_word, take_words, awaited_after, begun, take_all}
+use Rattle.lvs_model.specs.AdminWords.{is_dashed, is_given, is_second, with_option, take_named, take_option, service_key_of, role_of, with_service, take_value, take_awaited, take_word, take_words, awaited_after, begun, take_all}
 use Rattle.lvs_listing.specs.Savable.{IsSayableKey}
 use Rattle.lvs_laws.proofs.SaveNumbers.{IfGiven, IsSayableEndpoint, between, endpoint_small, mask_small}
 
@@ -32,7 +32,7 @@ abbrev awaits_mask : Awaited → Bool
 awaits_mask (ValueOf Netmask) = true
 awaits_mask _ = false
 
-pub record AreSayable (service : Option GivenService) (persist netmask_at mask_bits : Option ℕ) (awaited : Awaited) (endpoint : Option Endpoint) (weight upper : Option ℕ) : Type 0 where
+pub record AreSayable (service : Option GivenService) (persist netmask_at mask_bits : Option ℕ) (awaited : Awaited) (endpoint : Option GivenEndpoint) (weight upper : Option ℕ) : Type 0 where
   pub given : IfGiven (λ (g : GivenService). IsSayableKey g.key) service
   pub lasts : IfGiven (λ seconds. (1 ≤ seconds) × (seconds ≤ 2678400)) persist
   pub bits : IfGiven (λ n. n ≤ 32) mask_bits
@@ -120,11 +120,11 @@ not_awaited a is differs = let wrong : true ≡ false = subst (λ x. awaits_mask
 
 value_keeps : (at : ℕ) (word : List ℕ) (o : OptionName) (r t : WordsRead) → r.awaited ≡ ValueOf o → take_value at word o r ≡ Ok t → IsSayableRead r → IsSayableRead t
 value_keeps at word TcpService r t is e w =
-    value_by at cause.BadAddress (endpoint_of word) (λ (x : Endpoint). with_service at (service_at Tcp x) r) t e
-    (λ x found. let small = endpoint_small word x found in service_given at (service_at Tcp x) r (small.0, port_given x.port small.1) w)
+    value_by at cause.BadAddress (endpoint_of word) (λ (x : GivenEndpoint). with_service at (service_key_of Tcp x) r) t e
+    (λ x found. let small = endpoint_small word x found in service_given at (service_key_of Tcp x) r (small.0, port_given x.port small.1) w)
 value_keeps at word UdpService r t is e w =
-    value_by at cause.BadAddress (endpoint_of word) (λ (x : Endpoint). with_service at (service_at Udp x) r) t e
-    (λ x found. let small = endpoint_small word x found in service_given at (service_at Udp x) r (small.0, port_given x.port small.1) w)
+    value_by at cause.BadAddress (endpoint_of word) (λ (x : GivenEndpoint). with_service at (service_key_of Udp x) r) t e
+    (λ x found. let small = endpoint_small word x found in service_given at (service_key_of Udp x) r (small.0, port_given x.port small.1) w)
 value_keeps at word FwmarkService r t is e w =
     value_by at cause.BadNumber (number_between 1 4294967295 word) (λ (x : ℕ). with_service at (Mark x) r) t e
     (λ x found. let small = between 1 4294967295 word x found in service_given at (Mark x) r (small.0, omega (arith, small.1)) w)
@@ -138,7 +138,7 @@ value_keeps at word Netmask r t is e w =
     (λ x found. record { given = w.given; lasts = w.lasts; bits = mask_small word x found; masked = λ none. absurd (not_awaited r.awaited is (w.masked none).1); stands = w.stands; weighs = w.weighs; bounded = w.bounded })
 value_keeps at word OnePacket r t is e w = along (record r { awaited = AnOption }) t e (awaiting r AnOption refl w)
 value_keeps at word RealServer r t is e w =
-    value_by at cause.BadAddress (endpoint_of word) (λ (x : Endpoint). record r { server = Some x; awaited = AnOption }) t e
+    value_by at cause.BadAddress (endpoint_of word) (λ (x : GivenEndpoint). record r { server = Some x; awaited = AnOption }) t e
     (λ x found. record { given = w.given; lasts = w.lasts; bits = w.bits; masked = λ none. ((w.masked none).0, refl); stands = endpoint_small word x found; weighs = w.weighs; bounded = w.bounded })
 value_keeps at word Gatewaying r t is e w = along (record r { awaited = AnOption }) t e (awaiting r AnOption refl w)
 value_keeps at word Ipip r t is e w = along (record r { awaited = AnOption }) t e (awaiting r AnOption refl w)

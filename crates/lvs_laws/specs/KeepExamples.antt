@@ -12,7 +12,7 @@ use Rattle.lvs_types.specs.declared.entry.TcpState.TheVariants.{SynRecv, Establi
 use Rattle.lvs_types.specs.declared.item.Item.{Item}
 use Rattle.lvs_types.specs.declared.item.Item.TheVariants as item
 use Rattle.lvs_types.specs.declared.sync.SyncRecord.{SyncRecord}
-use Rattle.lvs_model.specs.ExampleItems.{virtual_addr, server_addr, web, direct_server, add_service, add_web_server, syn, left_by}
+use Rattle.lvs_model.specs.ExampleItems.{virtual_addr, server_addr, web, direct_server, add_example_service, add_web_server, syn, left_by}
 use Rattle.lvs_model.specs.State.{State}
 
 -- 172.16.0.9
@@ -26,7 +26,7 @@ client_key = record { proto = Tcp; caddr = client_addr; cport = 40000; vaddr = v
 
 -- a SYN of the client went to the server 192.168.0.1
 abbrev pub one_connection : State
-one_connection = left_by (add_service web None ∷ add_web_server 1 ∷ syn 40000 ∷ [])
+one_connection = left_by (add_example_service web None ∷ add_web_server 1 ∷ syn 40000 ∷ [])
 
 abbrev pub its_entry : Entry
 its_entry = record {
@@ -79,7 +79,7 @@ recorded_waiting = record recorded { state = 5 }
 
 -- a backup with the two servers, and one without a service
 abbrev pub backup : State
-backup = left_by (add_service web None ∷ add_web_server 1 ∷ add_web_server 2 ∷ start_backup ∷ [])
+backup = left_by (add_example_service web None ∷ add_web_server 1 ∷ add_web_server 2 ∷ start_backup ∷ [])
 
 abbrev pub bare_backup : State
 bare_backup = left_by (start_backup ∷ [])

@@ -90,14 +90,14 @@ LeavesBy s e _ = ⊥
 
 -- of the items one is such that the connection, which was there until then and the same, leaves by it
 pub record LeavesIn (s : State) (e : Entry) (items : List Item) : Type 0 where
-  pub front : List Item
+  pub prefix : List Item
   pub leaves_by : Item
   pub rest : List Item
-  pub cut : items ≡ front ++ leaves_by ∷ rest
+  pub cut : items ≡ prefix ++ leaves_by ∷ rest
   pub last : Entry
-  pub there : entry_of_id e.id (run s front).1.entries ≡ Some last
+  pub there : entry_of_id e.id (run s prefix).1.entries ≡ Some last
   pub same : IsSameConnection e last
-  pub leaves : LeavesBy (run s front).1 last leaves_by
+  pub leaves : LeavesBy (run s prefix).1 last leaves_by
 
 -- what is found under its id is the same connection; where nothing is found, this is so
 abbrev pub IsKeptUnless : Type 0 → Entry → Option Entry → Type 0

@@ -4,11 +4,11 @@ use Rattle.lvs_types.specs.declared.addr.DestId.{DestId}
 use Rattle.lvs_types.specs.declared.dest.Dest.{Dest}
 use Rattle.lvs_types.specs.declared.item.Item.{Item}
 use Rattle.lvs_types.specs.declared.item.Item.TheVariants as item
-use Rattle.lvs_model.specs.ExampleItems.{web, direct_server, add_service, add_web_server, remove_web_server, syn}
+use Rattle.lvs_model.specs.ExampleItems.{web, direct_server, add_example_service, add_web_server, remove_web_server, syn}
 
 -- the service is added, and one server
 abbrev pub one_server : List Item
-one_server = add_service web None ∷ add_web_server 1 ∷ []
+one_server = add_example_service web None ∷ add_web_server 1 ∷ []
 
 -- then a connection is made
 abbrev pub connected : List Item
@@ -28,7 +28,7 @@ swept_then_reaped = removed_then_swept ++ item.Reap ∷ []
 
 -- the same, the service being persistent for 300 seconds: a template is left of the connection, and is due
 abbrev pub template_left : List Item
-template_left = add_service web (Some 300) ∷ add_web_server 1 ∷ syn 40000 ∷ remove_web_server 1 ∷ item.Tick 1000 ∷ item.Sweep 0 ∷ []
+template_left = add_example_service web (Some 300) ∷ add_web_server 1 ∷ syn 40000 ∷ remove_web_server 1 ∷ item.Tick 1000 ∷ item.Sweep 0 ∷ []
 
 abbrev pub first_id : DestId
 first_id = record { 0 = 1 }

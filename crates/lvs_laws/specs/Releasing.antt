@@ -81,12 +81,12 @@ StaysOrIsReleased s next d None = IsReleasedBy s d next
 
 -- somewhere in the items: after the front the server is still in the state, and the item after it releases it
 pub record IsReleasedAmong (s : State) (items : List Item) (d : Dest) : Type 0 where
-  pub front : List Item
+  pub prefix : List Item
   pub next : Item
   pub rest : List Item
-  pub splits : items ≡ front ++ next ∷ rest
+  pub splits : items ≡ prefix ++ next ∷ rest
   pub server : Dest
-  pub there : dest_at d.id (run s front).1.dests ≡ Some server
+  pub there : dest_at d.id (run s prefix).1.dests ≡ Some server
   pub same : IsSameServer d server
-  pub released : IsReleasedBy (run s front).1 server next
-  pub left : IsGone (step (run s front).1 next).1 d.id
+  pub released : IsReleasedBy (run s prefix).1 server next
+  pub left : IsGone (step (run s prefix).1 next).1 d.id

@@ -9,7 +9,7 @@ ghost use Rattle.lvs_types.specs.declared.reply.DropCause.TheVariants as drops;
 ghost use Rattle.lvs_types.specs.declared.reply.Reply.TheVariants as reply;
 ghost use Rattle.lvs_types.specs.declared.service.Proto.TheVariants.{Tcp};
 ghost use Rattle.lvs_types.specs.declared.sync.SyncItem.TheVariants.{V4};
-ghost use Rattle.lvs_model.specs.ExampleItems.{ack, add_service, add_web_server, direct_to, remove_web_server, server_addr, syn, tcp_packet, web};
+ghost use Rattle.lvs_model.specs.ExampleItems.{ack, add_example_service, add_web_server, direct_to, remove_web_server, server_addr, syn, web_packet, web};
 ghost use Rattle.lvs_model.specs.Lookups.{entry_at};
 ghost use Rattle.lvs_model.specs.Step.{step, run};
 ghost use Rattle.lvs_model.specs.WellFormed.{IsWellFormed};
@@ -43,16 +43,16 @@ pub fn a_connection_is_taken_over()
     ensures well_formed { IsWellFormed backup }
     ensures accepted { IsTakenOver backup 7 recorded }
     ensures there { entry_at client_key (after_record backup 7 recorded).entries ≡ Some recorded_entry }
-    ensures plain { IsPlainPacketOf (after_record backup 7 recorded) recorded_entry 0 (tcp_packet 40000 16) ack_head Tcp }
-    ensures sent { (step (after_record backup 7 recorded) (ack 40000)).0 ≡ direct_to 2 (tcp_packet 40000 16) }
-    ensures sent_unbound { (step (after_record bare_backup 7 recorded) (ack 40000)).0 ≡ direct_to 2 (tcp_packet 40000 16) }
+    ensures plain { IsPlainPacketOf (after_record backup 7 recorded) recorded_entry 0 (web_packet 40000 16) ack_head Tcp }
+    ensures sent { (step (after_record backup 7 recorded) (ack 40000)).0 ≡ direct_to 2 (web_packet 40000 16) }
+    ensures sent_unbound { (step (after_record bare_backup 7 recorded) (ack 40000)).0 ≡ direct_to 2 (web_packet 40000 16) }
     ensures unbound { option_map (λ (e : Entry). e.server) (entry_of_id 1 (run (after_record bare_backup 7 recorded) (ack 40000 ∷ [])).1.entries) ≡ Some None }
-    ensures bound_later { option_map (λ (e : Entry). e.server) (entry_of_id 1 (run (after_record bare_backup 7 recorded) (ack 40000 ∷ add_service web None ∷ add_web_server 2 ∷ ack 40000 ∷ [])).1.entries) ≡ Some (Some (record { 0 = 1 })) }
+    ensures bound_later { option_map (λ (e : Entry). e.server) (entry_of_id 1 (run (after_record bare_backup 7 recorded) (ack 40000 ∷ add_example_service web None ∷ add_web_server 2 ∷ ack 40000 ∷ [])).1.entries) ≡ Some (Some (record { 0 = 1 })) }
 {}
 
 /// Where the recorded server was removed, the packet is dropped. A SYN takes up the place of a connection in
 /// TIME_WAIT: the scheduler picks anew, and it goes to another server.
 pub fn packets_that_are_not_sent_on()
     ensures gone { (step (run (after_record backup 7 recorded) (remove_web_server 2 ∷ [])).1 (ack 40000)).0 ≡ reply.Drop drops.Gone }
-    ensures reused { (step (after_record backup 7 recorded_waiting) (syn 40000)).0 ≡ direct_to 1 (tcp_packet 40000 2) }
+    ensures reused { (step (after_record backup 7 recorded_waiting) (syn 40000)).0 ≡ direct_to 1 (web_packet 40000 2) }
 {}

@@ -6,20 +6,20 @@ use Rattle.std.proofs.lemmas.List.Splits.{slice_split_first}
 use Rattle.lvs_model.specs.Lines.{cut_by}
 
 abbrev pub cut_pair : List ℕ → List ℕ → Option (List ℕ × List ℕ)
-cut_pair front after = Some (front, after)
+cut_pair prefix after = Some (prefix, after)
 
 first_part : (List ℕ → List (List ℕ)) → Option (List ℕ × List ℕ) → List (List ℕ)
 first_part more None = []
 first_part more (Some cut) = cut.0 ∷ more cut.1
 
-found_by : (b : Bool) (front after p q : List ℕ) (parts : List (List ℕ)) (more : List ℕ → List (List ℕ)) → (b ≡ true → parts ≡ p ∷ more q) → cut_pair front after ≡ cond b (cut_pair p q) None → parts ≡ front ∷ more after
+found_by : (b : Bool) (prefix after p q : List ℕ) (parts : List (List ℕ)) (more : List ℕ → List (List ℕ)) → (b ≡ true → parts ≡ p ∷ more q) → cut_pair prefix after ≡ cond b (cut_pair p q) None → parts ≡ prefix ∷ more after
 unfolding first_part
-found_by true front after p q parts more shown cut = shown refl ∙ sym (ap (first_part more) cut)
-found_by false front after p q parts more shown cut = cc
+found_by true prefix after p q parts more shown cut = shown refl ∙ sym (ap (first_part more) cut)
+found_by false prefix after p q parts more shown cut = cc
 
-pub split_found : (test : ℕ → Bool) (text front after : List ℕ) → cut_pair front after ≡ cut_by test text → slice_split test text ≡ front ∷ slice_split test after
-split_found test text front after cut =
-    found_by (nat_lt (position_or_len test text) (length text)) front after (before_first test text) (after_first test text) (slice_split test text) (slice_split test) (λ is. slice_split_first test text 0 (ltb-true _ _ is)) cut
+pub split_found : (test : ℕ → Bool) (text prefix after : List ℕ) → cut_pair prefix after ≡ cut_by test text → slice_split test text ≡ prefix ∷ slice_split test after
+split_found test text prefix after cut =
+    found_by (nat_lt (position_or_len test text) (length text)) prefix after (before_first test text) (after_first test text) (slice_split test text) (slice_split test) (λ is. slice_split_first test text 0 (ltb-true _ _ is)) cut
 
 unsplit_cons : (b : Bool) (c : ℕ) (cs : List ℕ) (parts : List (List ℕ)) (n : ℕ) → (length cs ≤ n → parts ≡ cs ∷ []) → suc (length cs) ≤ cond (not b) (suc n) 0 → cond b ([] ∷ parts) (onto_first c parts) ≡ (c ∷ cs) ∷ []
 unsplit_cons true c cs parts n later past = absurd (omega arith)

@@ -20,7 +20,7 @@ use Rattle.lvs_types.specs.Thresholds.{has_bad_thresholds}
 use Rattle.lvs_model.specs.State.{State}
 use Rattle.lvs_model.specs.Same.{service_key_eq}
 use Rattle.lvs_model.specs.Lookups.{has_service_key, is_server_at, stands_at}
-use Rattle.lvs_model.specs.Edits.{fresh, add_service_by, is_revivable, new_dest, place_server, add_server_by, is_server}
+use Rattle.lvs_model.specs.Edits.{with_fresh_cursor, add_service_by, is_revivable, new_dest, place_server, add_server_by, is_server}
 use Rattle.lvs_model.specs.Listings.{rows_of}
 use Rattle.lvs_listing.specs.Savable.{stand_together, AreSavableServers, AreSavableServices, IsSavable, said, said_rows, said_services, after, HasTables}
 use Rattle.lvs_listing.proofs.Numerals.{first_true, second_true, both_true}
@@ -70,7 +70,7 @@ all_live_append xs ys p q = list_all-append (λ (d : Dest). d.live) xs ys ∙ bo
 abbrev holding : State → List Service → List Dest → ℕ → State
 holding s services dests next = record s { services = services; dests = dests; next_dest = next }
 
-service_added : (s : State) (services : List Service) (dests : List Dest) (next : ℕ) (service : Service) (more : List Command) → list_any (has_service_key service.key) services ≡ false → after (holding s services dests next) (command.AddService service ∷ more) ≡ after (holding s (services ++ fresh service ∷ []) dests next) more
+service_added : (s : State) (services : List Service) (dests : List Dest) (next : ℕ) (service : Service) (more : List Command) → list_any (has_service_key service.key) services ≡ false → after (holding s services dests next) (command.AddService service ∷ more) ≡ after (holding s (services ++ with_fresh_cursor service ∷ []) dests next) more
 service_added s services dests next service more apart =
     ap (λ (known : Bool). after (add_service_by (holding s services dests next) service known).1 more) apart
 
@@ -128,13 +128,13 @@ servers_added s services dests n key before (row ∷ rows) more there live free 
 
 -- ALL SERVICES
 
-fresh_key : (key : ServiceKey) (services : List Service) → list_any (has_service_key key) (map fresh services) ≡ list_any (has_service_key key) services
+fresh_key : (key : ServiceKey) (services : List Service) → list_any (has_service_key key) (map with_fresh_cursor services) ≡ list_any (has_service_key key) services
 fresh_key key [] = refl
 fresh_key key (service ∷ services) = ap (λ (others : Bool). service_key_eq service.key key || others) (fresh_key key services)
 
-map_fresh_append : (xs : List Service) (service : Service) → map fresh (xs ++ service ∷ []) ≡ map fresh xs ++ fresh service ∷ []
+map_fresh_append : (xs : List Service) (service : Service) → map with_fresh_cursor (xs ++ service ∷ []) ≡ map with_fresh_cursor xs ++ with_fresh_cursor service ∷ []
 map_fresh_append [] service = refl
-map_fresh_append (x ∷ xs) service = ap (λ (rest : List Service). fresh x ∷ rest) (map_fresh_append xs service)
+map_fresh_append (x ∷ xs) service = ap (λ (rest : List Service). with_fresh_cursor x ∷ rest) (map_fresh_append xs service)
 
 key_eq_refl : (key : ServiceKey) → service_key_eq key key ≡ true
 key_eq_refl (Net Tcp addr port) = both_true (addr.number == addr.number) (port == port) (eq-eqb addr.number addr.number refl) (eq-eqb port port refl)
@@ -179,22 +179,22 @@ abbrev count_all : List DestRow → ℕ → List Service → ℕ
 count_all rows n [] = n
 count_all rows n (service ∷ services) = count_all rows (count_on n (rows_of service.key rows)) services
 
-services_added : (s : State) (rows : List DestRow) (before services : List Service) (dests : List Dest) (n : ℕ) → list_all (λ (d : Dest). d.live) dests ≡ true → AreNamed before dests → AreSavableServices rows before services → after (holding s (map fresh before) dests n) (service_commands rows services) ≡ holding s (map fresh (before ++ services)) (dests ++ made_all rows n services) (count_all rows n services)
+services_added : (s : State) (rows : List DestRow) (before services : List Service) (dests : List Dest) (n : ℕ) → list_all (λ (d : Dest). d.live) dests ≡ true → AreNamed before dests → AreSavableServices rows before services → after (holding s (map with_fresh_cursor before) dests n) (service_commands rows services) ≡ holding s (map with_fresh_cursor (before ++ services)) (dests ++ made_all rows n services) (count_all rows n services)
 services_added s rows before [] dests n live named are =
-    ap (λ (services : List Service). holding s (map fresh services) dests n) (sym (append-nil before)) ∙ ap (λ (ds : List Dest). holding s (map fresh (before ++ [])) ds n) (sym (append-nil dests))
+    ap (λ (services : List Service). holding s (map with_fresh_cursor services) dests n) (sym (append-nil before)) ∙ ap (λ (ds : List Dest). holding s (map with_fresh_cursor (before ++ [])) ds n) (sym (append-nil dests))
 services_added s rows before (service ∷ services) dests n live named are =
     let own : List DestRow = rows_of service.key rows in
     let next : List Service = before ++ service ∷ [] in
     let more : List Command = service_commands rows services in
     let later : ℕ = count_on n own in
-    let there : list_any (has_service_key service.key) (map fresh next) ≡ true = fresh_key service.key next ∙ any_last (has_service_key service.key) before service (key_eq_refl service.key) in
+    let there : list_any (has_service_key service.key) (map with_fresh_cursor next) ≡ true = fresh_key service.key next ∙ any_last (has_service_key service.key) before service (key_eq_refl service.key) in
     let free : IsFree service.key dests [] = λ spec none. unnamed_free service.key spec dests (named service.key are.2) in
-    service_added s (map fresh before) dests n (fresh service) (server_commands service.key own ++ more) (fresh_key service.key before ∙ are.2)
+    service_added s (map with_fresh_cursor before) dests n (with_fresh_cursor service) (server_commands service.key own ++ more) (fresh_key service.key before ∙ are.2)
     ∙ ap (λ (all : List Service). after (holding s all dests n) (server_commands service.key own ++ more)) (sym (map_fresh_append before service))
-    ∙ servers_added s (map fresh next) dests n service.key [] own more there live free are.1
+    ∙ servers_added s (map with_fresh_cursor next) dests n service.key [] own more there live free are.1
     ∙ services_added s rows next services (dests ++ made n service.key own) later (all_live_append dests (made n service.key own) live (made_live n service.key own)) (named_more before dests n service own named) are.3
-    ∙ ap (λ (all : List Service). holding s (map fresh all) ((dests ++ made n service.key own) ++ made_all rows later services) (count_all rows later services)) (append_assoc before (service ∷ []) services)
-    ∙ ap (λ (ds : List Dest). holding s (map fresh (before ++ service ∷ services)) ds (count_all rows later services)) (append_assoc dests (made n service.key own) (made_all rows later services))
+    ∙ ap (λ (all : List Service). holding s (map with_fresh_cursor all) ((dests ++ made n service.key own) ++ made_all rows later services) (count_all rows later services)) (append_assoc before (service ∷ []) services)
+    ∙ ap (λ (ds : List Dest). holding s (map with_fresh_cursor (before ++ service ∷ services)) ds (count_all rows later services)) (append_assoc dests (made n service.key own) (made_all rows later services))
 
 -- WHAT IS MADE
 
@@ -211,7 +211,7 @@ said_made_all rows n [] = refl
 said_made_all rows n (service ∷ services) =
     let own : List DestRow = rows_of service.key rows in
     map_said_append (made n service.key own) (made_all rows (count_on n own) services)
-    ∙ ap (λ (front : List (ServiceKey × DestSpec)). front ++ map said (made_all rows (count_on n own) services)) (said_made n service.key own)
+    ∙ ap (λ (prefix : List (ServiceKey × DestSpec)). prefix ++ map said (made_all rows (count_on n own) services)) (said_made n service.key own)
     ∙ ap (λ (rest : List (ServiceKey × DestSpec)). said_rows service.key own ++ rest) (said_made_all rows (count_on n own) services)
 
 live_made_all : (rows : List DestRow) (n : ℕ) (services : List Service) → list_all (λ (d : Dest). d.live) (made_all rows n services) ≡ true
@@ -224,7 +224,7 @@ pub tables_made : (tables : Snapshot) (s : State) → IsSavable tables → s.ser
 tables_made tables s are no_services no_dests =
     let rows : List DestRow = tables.dests in
     let services : List Service = tables.services in
-    let last : State = holding s (map fresh services) (made_all rows s.next_dest services) (count_all rows s.next_dest services) in
+    let last : State = holding s (map with_fresh_cursor services) (made_all rows s.next_dest services) (count_all rows s.next_dest services) in
     let made_so : after s (service_commands rows services) ≡ last =
     ap (λ (all : List Service). after (holding s all s.dests s.next_dest) (service_commands rows services)) no_services
     ∙ ap (λ (ds : List Dest). after (holding s [] ds s.next_dest) (service_commands rows services)) no_dests

@@ -62,21 +62,21 @@ front_cons : (t : Bool) (n m : ℕ) (more : Bool) → (more ≡ true → n ≡ m
 front_cons true n m more later all = let e : n ≡ m = later all in omega arith
 front_cons false n m more later all = cc
 
-front_len : (byte : ℕ) (front rest : List ℕ) → lacks byte front ≡ true → prefix_len (λ b. not (b == byte)) (front ++ byte ∷ rest) ≡ length front
+front_len : (byte : ℕ) (prefix rest : List ℕ) → lacks byte prefix ≡ true → prefix_len (λ b. not (b == byte)) (prefix ++ byte ∷ rest) ≡ length prefix
 front_len byte [] rest without = ap (λ (b : Bool). cond (not b) (1 + prefix_len (λ b. not (b == byte)) rest) 0) (eq-eqb byte byte refl)
-front_len byte (b ∷ front) rest without = front_cons (not (b == byte)) (prefix_len (λ b. not (b == byte)) (front ++ byte ∷ rest)) (length front) (lacks byte front) (front_len byte front rest) without
+front_len byte (b ∷ prefix) rest without = front_cons (not (b == byte)) (prefix_len (λ b. not (b == byte)) (prefix ++ byte ∷ rest)) (length prefix) (lacks byte prefix) (front_len byte prefix rest) without
 
-cut_after : (byte n : ℕ) (front rest : List ℕ) → n ≡ length front → cond (nat_lt n (length (front ++ byte ∷ rest))) (cut_pair (take n (front ++ byte ∷ rest)) (drop (n + 1) (front ++ byte ∷ rest))) None ≡ cut_pair front rest
-cut_after byte n front rest is =
-    let inside : n < length (front ++ byte ∷ rest) = omega (arith, length-append front (byte ∷ rest)) in
-    let first : take n (front ++ byte ∷ rest) ≡ front = ap (λ (k : ℕ). take k (front ++ byte ∷ rest)) is ∙ take-append_seam front (byte ∷ rest) in
-    let behind : drop (n + 1) (front ++ byte ∷ rest) ≡ rest = ap (λ (k : ℕ). drop (k + 1) (front ++ byte ∷ rest)) is ∙ drop-append-add front (byte ∷ rest) 1 in
-    ap (λ (b : Bool). cond b (cut_pair (take n (front ++ byte ∷ rest)) (drop (n + 1) (front ++ byte ∷ rest))) None) (lt-ltb n _ inside)
-    ∙ ap (λ (word : List ℕ). cut_pair word (drop (n + 1) (front ++ byte ∷ rest))) first
-    ∙ ap (λ (word : List ℕ). cut_pair front word) behind
+cut_after : (byte n : ℕ) (prefix rest : List ℕ) → n ≡ length prefix → cond (nat_lt n (length (prefix ++ byte ∷ rest))) (cut_pair (take n (prefix ++ byte ∷ rest)) (drop (n + 1) (prefix ++ byte ∷ rest))) None ≡ cut_pair prefix rest
+cut_after byte n prefix rest is =
+    let inside : n < length (prefix ++ byte ∷ rest) = omega (arith, length-append prefix (byte ∷ rest)) in
+    let first : take n (prefix ++ byte ∷ rest) ≡ prefix = ap (λ (k : ℕ). take k (prefix ++ byte ∷ rest)) is ∙ take-append_seam prefix (byte ∷ rest) in
+    let behind : drop (n + 1) (prefix ++ byte ∷ rest) ≡ rest = ap (λ (k : ℕ). drop (k + 1) (prefix ++ byte ∷ rest)) is ∙ drop-append-add prefix (byte ∷ rest) 1 in
+    ap (λ (b : Bool). cond b (cut_pair (take n (prefix ++ byte ∷ rest)) (drop (n + 1) (prefix ++ byte ∷ rest))) None) (lt-ltb n _ inside)
+    ∙ ap (λ (word : List ℕ). cut_pair word (drop (n + 1) (prefix ++ byte ∷ rest))) first
+    ∙ ap (λ (word : List ℕ). cut_pair prefix word) behind
 
-pub cut_at-front : (byte : ℕ) (front rest : List ℕ) → lacks byte front ≡ true → cut_at byte (front ++ byte ∷ rest) ≡ cut_pair front rest
-cut_at-front byte front rest without = cut_after byte (position_or_len (λ b. b == byte) (front ++ byte ∷ rest)) front rest (front_len byte front rest without)
+pub cut_at-front : (byte : ℕ) (prefix rest : List ℕ) → lacks byte prefix ≡ true → cut_at byte (prefix ++ byte ∷ rest) ≡ cut_pair prefix rest
+cut_at-front byte prefix rest without = cut_after byte (position_or_len (λ b. b == byte) (prefix ++ byte ∷ rest)) prefix rest (front_len byte prefix rest without)
 
 -- TESTS OF ALL BYTES
 

@@ -9,10 +9,10 @@ use Rattle.lvs_types.specs.declared.command.Command.TheVariants as command
 use Rattle.lvs_model.specs.declared.admin.BadWord.{BadWord}
 use Rattle.lvs_model.specs.Refusals.{◌>>=◌}
 use Rattle.lvs_model.specs.Lines.{lines_of}
-use Rattle.lvs_model.specs.Edits.{fresh}
+use Rattle.lvs_model.specs.Edits.{with_fresh_cursor}
 use Rattle.lvs_model.specs.AdminLines.{line_of_split}
 use Rattle.lvs_model.specs.Listings.{rows_of, server_words, service_words, saved_servers, saved_services}
-use Rattle.lvs_model.specs.Restoring.{BadSaved, at_line, saved_commands}
+use Rattle.lvs_model.specs.Restoring.{BadSaved, at_saved_line, saved_commands}
 use Rattle.lvs_listing.specs.Savable.{IsSayableKey, AreSavableServers, AreSavableServices}
 use Rattle.lvs_listing.proofs.Wording.{line_with, IsCommandText, all_plain, lines_of-plain, split_words-words, saved_line-words}
 use Rattle.lvs_listing.proofs.ServiceLines.{service_text}
@@ -24,7 +24,7 @@ server_commands key (row ∷ rows) = command.AddServer key row.dest.spec ∷ ser
 
 abbrev pub service_commands : List DestRow → List Service → List Command
 service_commands rows [] = []
-service_commands rows (service ∷ services) = command.AddService (fresh service) ∷ (server_commands service.key (rows_of service.key rows) ++ service_commands rows services)
+service_commands rows (service ∷ services) = command.AddService (with_fresh_cursor service) ∷ (server_commands service.key (rows_of service.key rows) ++ service_commands rows services)
 
 -- a number, one higher for each row
 abbrev pub count_on : ℕ → List DestRow → ℕ
@@ -41,7 +41,7 @@ first_command n text rest c is =
     ap (λ (t : List ℕ). saved_commands n (lines_of (t ++ rest))) is.spelled
     ∙ ap (λ (t : List ℕ). saved_commands n (lines_of t)) (append_assoc line (10 ∷ []) rest)
     ∙ ap (saved_commands n) (lines_of-plain line rest (all_plain is.first is.others is.first_word is.other_words))
-    ∙ ap (λ (read : Result (Option Command) BadWord). at_line n read >>= (λ (command : Option Command). more >>= (λ (commands : List Command). Ok (option_to_list command ++ commands)))) (saved_line-words is.first is.others c is.first_word is.other_words is.plain (ap line_of_split (split_words-words (is.first ∷ is.others) (is.first_word, is.other_words)) ∙ is.read))
+    ∙ ap (λ (read : Result (Option Command) BadWord). at_saved_line n read >>= (λ (command : Option Command). more >>= (λ (commands : List Command). Ok (option_to_list command ++ commands)))) (saved_line-words is.first is.others c is.first_word is.other_words is.plain (ap line_of_split (split_words-words (is.first ∷ is.others) (is.first_word, is.other_words)) ∙ is.read))
 
 servers_read : (n : ℕ) (key : ServiceKey) (before rows : List DestRow) (rest : List ℕ) (commands : List Command) → IsSayableKey key → AreSavableServers key before rows → saved_commands (count_on n rows) (lines_of rest) ≡ Ok commands → saved_commands n (lines_of (saved_servers key rows ++ rest)) ≡ Ok (server_commands key rows ++ commands)
 servers_read n key before [] rest commands said are read = read
@@ -54,6 +54,6 @@ pub services_read : (n : ℕ) (rows : List DestRow) (before services : List Serv
 services_read n rows before [] are = refl
 services_read n rows before (service ∷ services) are =
     ap (λ (t : List ℕ). saved_commands n (lines_of t)) (append_assoc (service_words service) (saved_servers service.key (rows_of service.key rows)) (saved_services rows services))
-    ∙ first_command n (service_words service) (saved_servers service.key (rows_of service.key rows) ++ saved_services rows services) (command.AddService (fresh service)) (service_text service are.0)
-    ∙ ap (pushed (command.AddService (fresh service)))
+    ∙ first_command n (service_words service) (saved_servers service.key (rows_of service.key rows) ++ saved_services rows services) (command.AddService (with_fresh_cursor service)) (service_text service are.0)
+    ∙ ap (pushed (command.AddService (with_fresh_cursor service)))
     (servers_read (n + 1) service.key [] (rows_of service.key rows) (saved_services rows services) (service_commands rows services) are.0.key are.1 (services_read (count_on (n + 1) (rows_of service.key rows)) rows (before ++ service ∷ []) services are.3))

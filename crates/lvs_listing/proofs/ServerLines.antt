@@ -17,7 +17,7 @@ use Rattle.lvs_types.specs.declared.command.Command.TheVariants as command
 use Rattle.lvs_model.specs.declared.admin.CommandName.TheVariants.{AddServer}
 use Rattle.lvs_model.specs.declared.admin.OptionName.TheVariants as option
 use Rattle.lvs_model.specs.declared.admin.Awaited.TheVariants.{AnOption}
-use Rattle.lvs_model.specs.declared.admin.Endpoint.{Endpoint}
+use Rattle.lvs_model.specs.declared.admin.GivenEndpoint.{GivenEndpoint}
 use Rattle.lvs_model.specs.declared.admin.WordsRead.{WordsRead}
 use Rattle.lvs_model.specs.declared.admin.BadWord.{BadWord}
 use Rattle.lvs_model.specs.Refusals.{◌>>=◌, needed}
@@ -65,7 +65,7 @@ server_taken : (key : ServiceKey) (d : DestSpec) (rest : List (List ℕ)) → d.
 server_taken key d rest small short =
     taken 3 (codes "-r") (endpoint_text d.addr d.port ∷ rest) (of_key AddServer key) (waits option.RealServer (of_key AddServer key)) refl
     ∙ taken 4 (endpoint_text d.addr d.port) rest (waits option.RealServer (of_key AddServer key)) (with_server key d)
-    (ap (λ (given : Option Endpoint). needed 4 cause.BadAddress given >>= (λ (endpoint : Endpoint). Ok (record (of_key AddServer key) { server = Some endpoint; awaited = AnOption }))) (endpoint_of-endpoint_text d.addr d.port small short))
+    (ap (λ (given : Option GivenEndpoint). needed 4 cause.BadAddress given >>= (λ (endpoint : GivenEndpoint). Ok (record (of_key AddServer key) { server = Some endpoint; awaited = AnOption }))) (endpoint_of-endpoint_text d.addr d.port small short))
 
 abbrev with_method : ServiceKey → DestSpec → Method → WordsRead
 with_method key d method = record (with_server key d) { method = Some method }
@@ -193,11 +193,11 @@ regrouped key endpoint method weight upper lower = simp append_assoc
 words_spelled : (key : ServiceKey) (d : DestSpec) → server_words key d ≡ line_with (codes "-a") (other_words key d (d.upper == 0) (d.lower == 0)) ++ 10 ∷ []
 unfolding threshold_text
 words_spelled key d =
-    let front : List ℕ = codes "-a " ++ key_words key ++ codes " -r " in
+    let prefix : List ℕ = codes "-a " ++ key_words key ++ codes " -r " in
     let rest : List ℕ = line_with (decimal d.weight) (limits (d.upper == 0) d.upper (d.lower == 0) d.lower) in
     ap (λ (text : List ℕ). text ++ 10 ∷ [])
-    (regrouped front (endpoint_text d.addr d.port) (method_word d.method) (decimal d.weight) (limit_text (codes " -x ") (d.upper == 0) d.upper) (limit_text (codes " -y ") (d.lower == 0) d.lower)
-    ∙ ap (λ (more : List ℕ). front ++ behind_key d more) (limits_spelled (decimal d.weight) (d.upper == 0) d.upper (d.lower == 0) d.lower)
+    (regrouped prefix (endpoint_text d.addr d.port) (method_word d.method) (decimal d.weight) (limit_text (codes " -x ") (d.upper == 0) d.upper) (limit_text (codes " -y ") (d.lower == 0) d.lower)
+    ∙ ap (λ (more : List ℕ). prefix ++ behind_key d more) (limits_spelled (decimal d.weight) (d.upper == 0) d.upper (d.lower == 0) d.lower)
     ∙ key_spelled key (behind_key d rest))
 
 pub server_text : (key : ServiceKey) (d : DestSpec) → IsSayableKey key → IsSayableServer key d → IsCommandText (server_words key d) (command.AddServer key d)

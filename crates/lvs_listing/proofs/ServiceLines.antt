@@ -26,8 +26,8 @@ use Rattle.lvs_model.specs.declared.admin.BadWord.{BadWord}
 use Rattle.lvs_model.specs.Refusals.{◌>>=◌, refused, needed, forbidden}
 use Rattle.lvs_model.specs.Decimals.{mask_of}
 use Rattle.lvs_model.specs.Report.{addr_text}
-use Rattle.lvs_model.specs.Edits.{fresh, fresh_cursor}
-use Rattle.lvs_model.specs.AdminWords.{is_tcp, take_option, take_value, take_words, take_all}
+use Rattle.lvs_model.specs.Edits.{with_fresh_cursor, fresh_cursor}
+use Rattle.lvs_model.specs.AdminWords.{is_tcp_service, take_option, take_value, take_words, take_all}
 use Rattle.lvs_model.specs.AdminLines.{is_portless, settled, line_read, line_of_split}
 use Rattle.lvs_model.specs.Listings.{endpoint_text, mask_addr, mask_text, persist_text, flag_text, options_text, key_words, service_words}
 use Rattle.lvs_listing.specs.Savable.{IsSayableKey, IsSayablePersistence, IsSayableService}
@@ -220,25 +220,25 @@ given_service key scheduler persist bits one_packet = record { key = key; schedu
 abbrev added : Service → Result Line BadWord
 added service = Ok (Edit (command.AddService service))
 
-line_end : (count : ℕ) (key : ServiceKey) (scheduler : Scheduler) (persist : Option ℕ) (full : Bool) (bits : ℕ) (one_packet : Bool) → IsSayablePersistence persist bits (is_portless key) → (is_tcp key && one_packet) ≡ false → (full ≡ true → bits ≡ 32) → line_from count (Ok (all_read key scheduler persist full bits one_packet)) ≡ added (given_service key scheduler persist bits one_packet)
+line_end : (count : ℕ) (key : ServiceKey) (scheduler : Scheduler) (persist : Option ℕ) (full : Bool) (bits : ℕ) (one_packet : Bool) → IsSayablePersistence persist bits (is_portless key) → (is_tcp_service key && one_packet) ≡ false → (full ≡ true → bits ≡ 32) → line_from count (Ok (all_read key scheduler persist full bits one_packet)) ≡ added (given_service key scheduler persist bits one_packet)
 line_end count key scheduler None full bits true said tcp is =
-    finished_ok (one_packet_check (is_tcp key) (Some 5)) (port_check (is_portless key) false) (given_service key scheduler None 32 true) (one_packet_ok (is_tcp key) true 5 tcp) (ap (λ (b : Bool). port_check b false) said.1)
+    finished_ok (one_packet_check (is_tcp_service key) (Some 5)) (port_check (is_portless key) false) (given_service key scheduler None 32 true) (one_packet_ok (is_tcp_service key) true 5 tcp) (ap (λ (b : Bool). port_check b false) said.1)
     ∙ ap (λ (n : ℕ). added (given_service key scheduler None n true)) (sym said.0)
 line_end count key scheduler None full bits false said tcp is =
-    finished_ok (one_packet_check (is_tcp key) None) (port_check (is_portless key) false) (given_service key scheduler None 32 false) (one_packet_ok (is_tcp key) false 5 tcp) (ap (λ (b : Bool). port_check b false) said.1)
+    finished_ok (one_packet_check (is_tcp_service key) None) (port_check (is_portless key) false) (given_service key scheduler None 32 false) (one_packet_ok (is_tcp_service key) false 5 tcp) (ap (λ (b : Bool). port_check b false) said.1)
     ∙ ap (λ (n : ℕ). added (given_service key scheduler None n false)) (sym said.0)
 line_end count key scheduler (Some seconds) true bits true said tcp is =
-    finished_ok (one_packet_check (is_tcp key) (Some 7)) (port_check (is_portless key) true) (given_service key scheduler (Some seconds) 32 true) (one_packet_ok (is_tcp key) true 7 tcp) (port_ok (is_portless key))
+    finished_ok (one_packet_check (is_tcp_service key) (Some 7)) (port_check (is_portless key) true) (given_service key scheduler (Some seconds) 32 true) (one_packet_ok (is_tcp_service key) true 7 tcp) (port_ok (is_portless key))
     ∙ ap (λ (n : ℕ). added (given_service key scheduler (Some seconds) n true)) (sym (is refl))
 line_end count key scheduler (Some seconds) true bits false said tcp is =
-    finished_ok (one_packet_check (is_tcp key) None) (port_check (is_portless key) true) (given_service key scheduler (Some seconds) 32 false) (one_packet_ok (is_tcp key) false 7 tcp) (port_ok (is_portless key))
+    finished_ok (one_packet_check (is_tcp_service key) None) (port_check (is_portless key) true) (given_service key scheduler (Some seconds) 32 false) (one_packet_ok (is_tcp_service key) false 7 tcp) (port_ok (is_portless key))
     ∙ ap (λ (n : ℕ). added (given_service key scheduler (Some seconds) n false)) (sym (is refl))
 line_end count key scheduler (Some seconds) false bits true said tcp is =
-    finished_ok (one_packet_check (is_tcp key) (Some 9)) (port_check (is_portless key) true) (given_service key scheduler (Some seconds) bits true) (one_packet_ok (is_tcp key) true 9 tcp) (port_ok (is_portless key))
+    finished_ok (one_packet_check (is_tcp_service key) (Some 9)) (port_check (is_portless key) true) (given_service key scheduler (Some seconds) bits true) (one_packet_ok (is_tcp_service key) true 9 tcp) (port_ok (is_portless key))
 line_end count key scheduler (Some seconds) false bits false said tcp is =
-    finished_ok (one_packet_check (is_tcp key) None) (port_check (is_portless key) true) (given_service key scheduler (Some seconds) bits false) (one_packet_ok (is_tcp key) false 9 tcp) (port_ok (is_portless key))
+    finished_ok (one_packet_check (is_tcp_service key) None) (port_check (is_portless key) true) (given_service key scheduler (Some seconds) bits false) (one_packet_ok (is_tcp_service key) false 9 tcp) (port_ok (is_portless key))
 
-service_read : (key : ServiceKey) (scheduler : Scheduler) (persist : Option ℕ) (full : Bool) (bits : ℕ) (one_packet : Bool) → IsSayableKey key → IsSayablePersistence persist bits (is_portless key) → (is_tcp key && one_packet) ≡ false → (full ≡ true → bits ≡ 32) → line_of_split (codes "-A" ∷ other_words key scheduler (tail_words persist full bits one_packet)) ≡ added (given_service key scheduler persist bits one_packet)
+service_read : (key : ServiceKey) (scheduler : Scheduler) (persist : Option ℕ) (full : Bool) (bits : ℕ) (one_packet : Bool) → IsSayableKey key → IsSayablePersistence persist bits (is_portless key) → (is_tcp_service key && one_packet) ≡ false → (full ≡ true → bits ≡ 32) → line_of_split (codes "-A" ∷ other_words key scheduler (tail_words persist full bits one_packet)) ≡ added (given_service key scheduler persist bits one_packet)
 service_read key scheduler persist full bits one_packet said lasts tcp is =
     ap (line_from (length (codes "-A" ∷ other_words key scheduler (tail_words persist full bits one_packet)))) (service_taken key scheduler persist full bits one_packet said lasts)
     ∙ line_end (length (codes "-A" ∷ other_words key scheduler (tail_words persist full bits one_packet))) key scheduler persist full bits one_packet lasts tcp is
@@ -302,7 +302,7 @@ words_spelled s said =
     ∙ ap (λ (more : List ℕ). key ++ more) (tail_spelled name s.persist (s.mask_bits == 32) s.mask_bits s.one_packet (full_unless s.persist s.mask_bits (is_portless s.key) said.persistence))
     ∙ key_spelled s.key (line_with name (tail_words s.persist (s.mask_bits == 32) s.mask_bits s.one_packet)))
 
-pub service_text : (s : Service) → IsSayableService s → IsCommandText (service_words s) (command.AddService (fresh s))
+pub service_text : (s : Service) → IsSayableService s → IsCommandText (service_words s) (command.AddService (with_fresh_cursor s))
 service_text s said = record {
   first = codes "-A";
   others = other_words s.key s.scheduler (tail_words s.persist (s.mask_bits == 32) s.mask_bits s.one_packet);

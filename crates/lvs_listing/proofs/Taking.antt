@@ -15,11 +15,11 @@ use Rattle.lvs_model.specs.declared.admin.CommandName.TheVariants.{AddService, A
 use Rattle.lvs_model.specs.declared.admin.OptionName.{OptionName}
 use Rattle.lvs_model.specs.declared.admin.OptionName.TheVariants as option
 use Rattle.lvs_model.specs.declared.admin.Awaited.TheVariants.{ValueOf}
-use Rattle.lvs_model.specs.declared.admin.Endpoint.{Endpoint}
+use Rattle.lvs_model.specs.declared.admin.GivenEndpoint.{GivenEndpoint}
 use Rattle.lvs_model.specs.declared.admin.WordsRead.{WordsRead}
 use Rattle.lvs_model.specs.declared.admin.BadWord.{BadWord}
 use Rattle.lvs_model.specs.Refusals.{◌>>=◌, needed}
-use Rattle.lvs_model.specs.AdminWords.{service_at, with_service, take_value, take_word, take_words, begun}
+use Rattle.lvs_model.specs.AdminWords.{service_key_of, with_service, take_value, take_word, take_words, begun}
 use Rattle.lvs_model.specs.Listings.{endpoint_text}
 use Rattle.lvs_listing.specs.Savable.{IsSayableKey}
 use Rattle.lvs_listing.proofs.Numerals.{endpoint_of-endpoint_text, number_between-decimal}
@@ -55,11 +55,11 @@ key_value_is_word (Mark mark) said = let small : mark < 2 ^ 32 = said.1 in numbe
 
 tcp_value : (r : WordsRead) (addr : Addr) (port : ℕ) → addr.number < 2 ^ 32 → port < 2 ^ 16 → take_value 2 (endpoint_text addr port) option.TcpService r ≡ Ok (with_service 2 (Net Tcp addr port) r)
 tcp_value r addr port small short =
-    ap (λ (given : Option Endpoint). needed 2 cause.BadAddress given >>= (λ (endpoint : Endpoint). Ok (with_service 2 (service_at Tcp endpoint) r))) (endpoint_of-endpoint_text addr port small short)
+    ap (λ (given : Option GivenEndpoint). needed 2 cause.BadAddress given >>= (λ (endpoint : GivenEndpoint). Ok (with_service 2 (service_key_of Tcp endpoint) r))) (endpoint_of-endpoint_text addr port small short)
 
 udp_value : (r : WordsRead) (addr : Addr) (port : ℕ) → addr.number < 2 ^ 32 → port < 2 ^ 16 → take_value 2 (endpoint_text addr port) option.UdpService r ≡ Ok (with_service 2 (Net Udp addr port) r)
 udp_value r addr port small short =
-    ap (λ (given : Option Endpoint). needed 2 cause.BadAddress given >>= (λ (endpoint : Endpoint). Ok (with_service 2 (service_at Udp endpoint) r))) (endpoint_of-endpoint_text addr port small short)
+    ap (λ (given : Option GivenEndpoint). needed 2 cause.BadAddress given >>= (λ (endpoint : GivenEndpoint). Ok (with_service 2 (service_key_of Udp endpoint) r))) (endpoint_of-endpoint_text addr port small short)
 
 mark_value : (r : WordsRead) (mark : ℕ) → 1 ≤ mark → mark < 2 ^ 32 → take_value 2 (decimal mark) option.FwmarkService r ≡ Ok (with_service 2 (Mark mark) r)
 mark_value r mark some small =

@@ -14,9 +14,9 @@ use Rattle.lvs_types.specs.declared.item.Item.TheVariants as item
 use Rattle.lvs_model.specs.State.{State}
 use Rattle.lvs_model.specs.Same.{addr_eq, method_eq}
 use Rattle.lvs_model.specs.Lookups.{has_service_key}
-use Rattle.lvs_model.specs.Edits.{fresh}
+use Rattle.lvs_model.specs.Edits.{with_fresh_cursor}
 use Rattle.lvs_model.specs.Step.{run}
-use Rattle.lvs_model.specs.AdminWords.{is_tcp}
+use Rattle.lvs_model.specs.AdminWords.{is_tcp_service}
 use Rattle.lvs_model.specs.AdminLines.{is_portless, service_port}
 use Rattle.lvs_model.specs.Listings.{rows_of}
 
@@ -35,7 +35,7 @@ pub record IsSayableService (s : Service) : Type 0 where
   pub key : IsSayableKey s.key
   pub persistence : IsSayablePersistence s.persist s.mask_bits (is_portless s.key)
   -- one-packet scheduling isn't for TCP
-  pub one_packet : (is_tcp s.key && s.one_packet) ≡ false
+  pub one_packet : (is_tcp_service s.key && s.one_packet) ≡ false
 
 pub record IsSayableServer (key : ServiceKey) (d : DestSpec) : Type 0 where
   pub addr : d.addr.number < 2 ^ 32
@@ -89,6 +89,6 @@ after s commands = (run s (map (λ (command : Command). item.Edit command) comma
 
 -- the same services, whose schedulers begin anew, and the same servers in the same order, all live
 pub record HasTables (tables : Snapshot) (s : State) : Type 0 where
-  pub services : s.services ≡ map fresh tables.services
+  pub services : s.services ≡ map with_fresh_cursor tables.services
   pub servers : map said s.dests ≡ said_services tables.dests tables.services
   pub live : list_all (λ (d : Dest). d.live) s.dests ≡ true

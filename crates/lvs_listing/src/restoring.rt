@@ -3,7 +3,7 @@ ghost use Rattle.std.specs.Prelude.{◌≡◌, ℕ, IfOk, OnOk, Ok, Err};
 ghost use Rattle.lvs_types.specs.declared.script.WordsCause.{WordsCause};
 ghost use Rattle.lvs_admin.specs.declared.refused.WordsRefused.{WordsRefused};
 ghost use Rattle.lvs_model.specs.AdminLines.{line_of_words};
-ghost use Rattle.lvs_model.specs.Restoring.{command_of_line, saved_line, at_line, restored};
+ghost use Rattle.lvs_model.specs.Restoring.{command_of_line, saved_line, at_saved_line, restored};
 ghost use Rattle.lvs_lines.specs.Texts.{texts};
 ghost use Rattle.lvs_listing.specs.Texts.{with_command};
 
@@ -54,8 +54,8 @@ fn take_line(
     number: u64,
     text: &[u8],
 ) -> Result<(), RestoreRefused>
-    ensures ok { OnOk result (with_command commands.old.items (at_line number (saved_line text.now)) ≡ Ok commands.new.items) }
-    ensures refused { (line at : ℕ) (cause : WordsCause) → result ≡ Err (RestoreRefused.Refused line at cause) → at_line number (saved_line text.now) ≡ Err (record { line = line; at = at; cause = cause }) }
+    ensures ok { OnOk result (with_command commands.old.items (at_saved_line number (saved_line text.now)) ≡ Ok commands.new.items) }
+    ensures refused { (line at : ℕ) (cause : WordsCause) → result ≡ Err (RestoreRefused.Refused line at cause) → at_saved_line number (saved_line text.now) ≡ Err (record { line = line; at = at; cause = cause }) }
 {
     match read_line(alloc, text) {
         Ok(None) => Ok(()),

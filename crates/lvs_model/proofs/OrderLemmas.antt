@@ -11,8 +11,8 @@ use Rattle.std.proofs.lemmas.List.Sorted.{IsPermutation-sym, Contains-permutatio
 -- ---- WHAT HOLDS OF EACH ELEMENT OF TWO LISTS
 
 pub all_join : {X : Type 0} (P : X → Type 0) (xs ys : List X) → AllByRecursion P xs → AllByRecursion P ys → AllByRecursion P (xs ++ ys)
-all_join P [] ys front back = back
-all_join P (x ∷ xs) ys front back = (front.0, all_join P xs ys front.1 back)
+all_join P [] ys prefix back = back
+all_join P (x ∷ xs) ys prefix back = (prefix.0, all_join P xs ys prefix.1 back)
 
 pub join_front : {X : Type 0} (P : X → Type 0) (xs ys : List X) → AllByRecursion P (xs ++ ys) → AllByRecursion P xs
 join_front P [] ys all = tt
@@ -218,10 +218,10 @@ insert_comm number x y [] apart = comm_none number x y (nat_le (number x) (numbe
 insert_comm number x y (z ∷ zs) apart =
     comm_at number x y z zs (nat_le (number x) (number z)) (nat_le (number y) (number z)) refl refl apart (insert_comm number x y zs apart)
 
-pub sorted_put : {X : Type 0} (number : X → ℕ) (x : X) (front back : List X) → AllByRecursion (λ y. number y ≡ number x → ⊥) front → sorted_by number (front ++ x ∷ back) ≡ insert_by number x (sorted_by number (front ++ back))
+pub sorted_put : {X : Type 0} (number : X → ℕ) (x : X) (prefix back : List X) → AllByRecursion (λ y. number y ≡ number x → ⊥) prefix → sorted_by number (prefix ++ x ∷ back) ≡ insert_by number x (sorted_by number (prefix ++ back))
 sorted_put number x [] back apart = refl
-sorted_put number x (y ∷ front) back apart =
-    ap (insert_by number y) (sorted_put number x front back apart.1) ∙ insert_comm number y x (sorted_by number (front ++ back)) apart.0
+sorted_put number x (y ∷ prefix) back apart =
+    ap (insert_by number y) (sorted_put number x prefix back apart.1) ∙ insert_comm number y x (sorted_by number (prefix ++ back)) apart.0
 
 -- one with a higher number than each stands last
 pub insert_last : {X : Type 0} (number : X → ℕ) (x : X) (ys : List X) → AllByRecursion (λ y. number y < number x) ys → insert_by number x ys ≡ ys ++ x ∷ []
@@ -330,11 +330,11 @@ update_is p v (x ∷ xs) once =
 
 -- ---- counts after a change
 
-pub count_put : {X : Type 0} (p : X → Bool) (x : X) (front back : List X) → count_by p (front ++ x ∷ back) ≡ cond (p x) 1 0 + count_by p (front ++ back)
-count_put p x front back =
-    let one = sum_by-append (λ z. cond (p z) 1 0) front (x ∷ back) in
+pub count_put : {X : Type 0} (p : X → Bool) (x : X) (prefix back : List X) → count_by p (prefix ++ x ∷ back) ≡ cond (p x) 1 0 + count_by p (prefix ++ back)
+count_put p x prefix back =
+    let one = sum_by-append (λ z. cond (p z) 1 0) prefix (x ∷ back) in
     let two = sum_by-cons (λ z. cond (p z) 1 0) x back in
-    let three = sum_by-append (λ z. cond (p z) 1 0) front back in
+    let three = sum_by-append (λ z. cond (p z) 1 0) prefix back in
     omega arith
 
 count_less : {X : Type 0} (p : X → Bool) (b : Bool) (x : X) (xs ys : List X) → count_by p ys ≤ count_by p xs → count_by p (cond b (x ∷ ys) ys) ≤ cond (p x) 1 0 + count_by p xs
@@ -388,13 +388,13 @@ pub count_zero : {X : Type 0} (p : X → Bool) (xs : List X) → AllByRecursion 
 count_zero p xs none = sym (length-filter p xs) ∙ ap (λ ys. length ys) (filter_none p xs none)
 
 -- one more passes, where none did, or it doesn't pass
-pub put_once : {X : Type 0} (p : X → Bool) (x : X) (front back : List X) (b : Bool) → p x ≡ b → (p x ≡ true → AllByRecursion (λ y. p y ≡ false) (front ++ back)) → count_by p (front ++ back) ≤ 1 → count_by p (front ++ x ∷ back) ≤ 1
-put_once p x front back true is none once =
-    let whole = count_put p x front back ∙ ap (λ (b : Bool). cond b 1 0 + count_by p (front ++ back)) is in
-    let zero_there = count_zero p (front ++ back) (none is) in
+pub put_once : {X : Type 0} (p : X → Bool) (x : X) (prefix back : List X) (b : Bool) → p x ≡ b → (p x ≡ true → AllByRecursion (λ y. p y ≡ false) (prefix ++ back)) → count_by p (prefix ++ back) ≤ 1 → count_by p (prefix ++ x ∷ back) ≤ 1
+put_once p x prefix back true is none once =
+    let whole = count_put p x prefix back ∙ ap (λ (b : Bool). cond b 1 0 + count_by p (prefix ++ back)) is in
+    let zero_there = count_zero p (prefix ++ back) (none is) in
     omega arith
-put_once p x front back false is none once =
-    let whole = count_put p x front back ∙ ap (λ (b : Bool). cond b 1 0 + count_by p (front ++ back)) is in
+put_once p x prefix back false is none once =
+    let whole = count_put p x prefix back ∙ ap (λ (b : Bool). cond b 1 0 + count_by p (prefix ++ back)) is in
     omega arith
 
 -- ---- LISTS WITH THE SAME MEMBERS

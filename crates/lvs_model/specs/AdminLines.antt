@@ -22,11 +22,11 @@ use Rattle.lvs_model.specs.declared.admin.Awaited.TheVariants.{AnOption, ValueOf
 use Rattle.lvs_model.specs.declared.admin.DaemonRole.{DaemonRole}
 use Rattle.lvs_model.specs.declared.admin.DaemonRole.TheVariants.{Master, Backup}
 use Rattle.lvs_model.specs.declared.admin.GivenService.{GivenService}
-use Rattle.lvs_model.specs.declared.admin.Endpoint.{Endpoint}
+use Rattle.lvs_model.specs.declared.admin.GivenEndpoint.{GivenEndpoint}
 use Rattle.lvs_model.specs.declared.admin.WordsRead.{WordsRead}
 use Rattle.lvs_model.specs.declared.admin.BadWord.{BadWord}
 use Rattle.lvs_model.specs.Refusals.{◌>>=◌, refused, needed, forbidden}
-use Rattle.lvs_model.specs.AdminWords.{is_tcp, split_words, take_all}
+use Rattle.lvs_model.specs.AdminWords.{is_tcp_service, split_words, take_all}
 
 -- no word is awaited: an option may come or not, and so may the value of `-p`
 abbrev pub is_settled : Awaited → Bool
@@ -46,7 +46,7 @@ checked_mask r = if is_some r.persist then Ok tt else forbidden cause.Conflict r
 
 -- one-packet scheduling of TCP
 abbrev pub checked_one_packet : GivenService → WordsRead → Result (Unit {0}) BadWord
-checked_one_packet service r = if is_tcp service.key then forbidden cause.Conflict r.one_packet_at else Ok tt
+checked_one_packet service r = if is_tcp_service service.key then forbidden cause.Conflict r.one_packet_at else Ok tt
 
 -- a service of every port of its address
 abbrev pub is_portless : ServiceKey → Bool
@@ -90,7 +90,7 @@ server_port Tunnel key port = service_port key
 server_port Direct key port = service_port key
 
 -- the server of `-a` and `-e`, with the defaults of what wasn't given
-abbrev pub server_of : Method → ServiceKey → Endpoint → WordsRead → DestSpec
+abbrev pub server_of : Method → ServiceKey → GivenEndpoint → WordsRead → DestSpec
 server_of method key endpoint r = record {
   addr = endpoint.addr;
   port = server_port method key endpoint.port;

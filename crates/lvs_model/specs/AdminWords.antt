@@ -19,7 +19,7 @@ use Rattle.lvs_model.specs.declared.admin.Awaited.TheVariants.{AnOption, ValueOf
 use Rattle.lvs_model.specs.declared.admin.DaemonRole.{DaemonRole}
 use Rattle.lvs_model.specs.declared.admin.DaemonRole.TheVariants.{Master, Backup}
 use Rattle.lvs_model.specs.declared.admin.GivenService.{GivenService}
-use Rattle.lvs_model.specs.declared.admin.Endpoint.{Endpoint}
+use Rattle.lvs_model.specs.declared.admin.GivenEndpoint.{GivenEndpoint}
 use Rattle.lvs_model.specs.declared.admin.WordsRead.{WordsRead}
 use Rattle.lvs_model.specs.declared.admin.BadWord.{BadWord}
 use Rattle.lvs_model.specs.Decimals.{is_number, number_between, cut_at, endpoint_of, mask_of}
@@ -78,15 +78,15 @@ is_method_option Ipip = true
 is_method_option Masquerading = true
 is_method_option _ = false
 
-abbrev pub is_tcp : ServiceKey → Bool
-is_tcp (Net Tcp addr port) = true
-is_tcp (Net Udp addr port) = false
-is_tcp (Mark mark) = false
+abbrev pub is_tcp_service : ServiceKey → Bool
+is_tcp_service (Net Tcp addr port) = true
+is_tcp_service (Net Udp addr port) = false
+is_tcp_service (Mark mark) = false
 
-abbrev pub is_udp : ServiceKey → Bool
-is_udp (Net Tcp addr port) = false
-is_udp (Net Udp addr port) = true
-is_udp (Mark mark) = false
+abbrev pub is_udp_service : ServiceKey → Bool
+is_udp_service (Net Tcp addr port) = false
+is_udp_service (Net Udp addr port) = true
+is_udp_service (Mark mark) = false
 
 abbrev pub is_mark : ServiceKey → Bool
 is_mark (Net proto addr port) = false
@@ -106,8 +106,8 @@ has_method _ _ = false
 
 -- whether an option was given before
 abbrev pub is_given : WordsRead → OptionName → Bool
-is_given r TcpService = has_service is_tcp r.service
-is_given r UdpService = has_service is_udp r.service
+is_given r TcpService = has_service is_tcp_service r.service
+is_given r UdpService = has_service is_udp_service r.service
 is_given r FwmarkService = has_service is_mark r.service
 is_given r Scheduling = is_some r.scheduler
 is_given r Persistent = is_some r.persist
@@ -163,8 +163,8 @@ take_option at word r = if is_dashed word then take_named at (option_of word) (c
 -- A VALUE
 
 -- ADDR or ADDR:PORT of a service, port 0 where none is written
-abbrev pub service_at : Proto → Endpoint → ServiceKey
-service_at proto endpoint = Net proto endpoint.addr (unwrap_or endpoint.port 0)
+abbrev pub service_key_of : Proto → GivenEndpoint → ServiceKey
+service_key_of proto endpoint = Net proto endpoint.addr (unwrap_or endpoint.port 0)
 
 -- master or backup
 abbrev pub role_of : List ℕ → Option DaemonRole
@@ -182,10 +182,10 @@ with_service at key r = record r { service = Some (record { at = at; key = key }
 abbrev pub take_value : ℕ → List ℕ → OptionName → WordsRead → Result WordsRead BadWord
 take_value at word TcpService r = do
   endpoint ← needed at cause.BadAddress (endpoint_of word)
-  Ok (with_service at (service_at Tcp endpoint) r)
+  Ok (with_service at (service_key_of Tcp endpoint) r)
 take_value at word UdpService r = do
   endpoint ← needed at cause.BadAddress (endpoint_of word)
-  Ok (with_service at (service_at Udp endpoint) r)
+  Ok (with_service at (service_key_of Udp endpoint) r)
 take_value at word FwmarkService r = do
   mark ← needed at cause.BadNumber (number_between 1 4294967295 word)
   Ok (with_service at (Mark mark) r)

@@ -13,7 +13,7 @@ use Rattle.lvs_types.specs.declared.item.Item.TheVariants as item
 use Rattle.lvs_model.specs.Fields.{word_bytes}
 use Rattle.lvs_model.specs.State.{State, initial}
 use Rattle.lvs_model.specs.Step.{run}
-use Rattle.lvs_model.specs.ExampleItems.{tunnel_source, virtual_addr, server_addr, web, add_service, add_web_server, syn}
+use Rattle.lvs_model.specs.ExampleItems.{tunnel_source, virtual_addr, server_addr, web, add_example_service, add_web_server, syn}
 
 -- the state that items leave, with 16 buckets
 abbrev pub left_in_16 : List Item → State
@@ -21,11 +21,11 @@ left_in_16 items = (run (initial tunnel_source 16) items).1
 
 -- a service with one server and no connections
 abbrev pub unused : State
-unused = left_in_16 (add_service web None ∷ add_web_server 1 ∷ [])
+unused = left_in_16 (add_example_service web None ∷ add_web_server 1 ∷ [])
 
 -- connections from the ports 40000 and 40001
 abbrev pub two_connected : State
-two_connected = left_in_16 (add_service web None ∷ add_web_server 1 ∷ syn 40000 ∷ syn 40001 ∷ [])
+two_connected = left_in_16 (add_example_service web None ∷ add_web_server 1 ∷ syn 40000 ∷ syn 40001 ∷ [])
 
 -- the key of the connection from a port
 abbrev pub web_key : ℕ → Key

@@ -3,7 +3,7 @@ use Rattle.std.specs.Prelude.{ℕ, ◌+◌, ◌-◌, ◌*◌, ◌^◌, Bool, fal
 use Rattle.std.specs.List.{list_all, position_or_len, before_first, after_first}
 use Rattle.std.specs.Char.{is_ascii_digit}
 use Rattle.lvs_types.specs.declared.addr.Addr.{Addr}
-use Rattle.lvs_model.specs.declared.admin.Endpoint.{Endpoint}
+use Rattle.lvs_model.specs.declared.admin.GivenEndpoint.{GivenEndpoint}
 
 infixl 10 ◌>>=◌
 abbrev ◌>>=◌ : {A B : Type 0} → Option A → (A → Option B) → Option B
@@ -54,7 +54,7 @@ abbrev pub port_of : List ℕ → Option ℕ
 port_of = number_of 5 65535
 
 -- by whether there is a colon (58)
-abbrev pub endpoint_cut : List ℕ → Option (List ℕ × List ℕ) → Option Endpoint
+abbrev pub endpoint_cut : List ℕ → Option (List ℕ × List ℕ) → Option GivenEndpoint
 endpoint_cut word None = do
   addr ← addr_of word
   Some (record { addr = addr; port = None })
@@ -64,7 +64,7 @@ endpoint_cut word (Some parts) = do
   Some (record { addr = addr; port = Some port })
 
 -- ADDR or ADDR:PORT
-abbrev pub endpoint_of : List ℕ → Option Endpoint
+abbrev pub endpoint_of : List ℕ → Option GivenEndpoint
 endpoint_of word = endpoint_cut word (cut_at 58 word)
 
 -- the numbers from 0 to 32

@@ -30,15 +30,15 @@ use Rattle.lvs_model.specs.Lookups.{has_service_key, is_server_of, is_server_at,
 abbrev pub fresh_cursor : Cursor
 fresh_cursor = record { last = None; cw = 0 }
 
-abbrev pub fresh : Service → Service
-fresh service = record service { cursor = fresh_cursor }
+abbrev pub with_fresh_cursor : Service → Service
+with_fresh_cursor service = record service { cursor = fresh_cursor }
 
 abbrev pub is_service : State → ServiceKey → Bool
 is_service s key = list_any (has_service_key key) s.services
 
 abbrev pub add_service_by : State → Service → Bool → Reply × State
 add_service_by s service true = (reply.Refused refused.Exists, s)
-add_service_by s service false = (reply.Done, record s { services = s.services ++ fresh service ∷ [] })
+add_service_by s service false = (reply.Done, record s { services = s.services ++ with_fresh_cursor service ∷ [] })
 
 -- -A
 abbrev pub add_service : State → Service → Reply × State
@@ -46,7 +46,7 @@ add_service s service = add_service_by s service (is_service s service.key)
 
 abbrev pub edit_service_by : State → Service → Bool → Reply × State
 edit_service_by s service false = (reply.Refused refused.NoService, s)
-edit_service_by s service true = (reply.Done, record s { services = update_first (has_service_key service.key) (λ _. fresh service) s.services })
+edit_service_by s service true = (reply.Done, record s { services = update_first (has_service_key service.key) (λ _. with_fresh_cursor service) s.services })
 
 -- -E
 abbrev pub edit_service : State → Service → Reply × State

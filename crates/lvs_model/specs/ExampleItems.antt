@@ -29,8 +29,8 @@ abbrev pub server_addr : ℕ → Addr
 server_addr n = record { number = 0xC0A80000 + n }
 
 -- a TCP packet from this port to 10.0.0.1:80, with these flags (FIN 1, SYN 2, RST 4, ACK 16); its TCP checksum isn't looked at
-abbrev pub tcp_packet : ℕ → ℕ → List ℕ
-tcp_packet port flags =
+abbrev pub web_packet : ℕ → ℕ → List ℕ
+web_packet port flags =
     0x45 ∷ 0 ∷ 0 ∷ 40 ∷ 0 ∷ 1 ∷ 0x40 ∷ 0 ∷ 0x40 ∷ 6 ∷ 0x84 ∷ 0xB5 ∷ 0xAC ∷ 0x10 ∷ 0 ∷ 9 ∷ 10 ∷ 0 ∷ 0 ∷ 1 ∷ []
     ++ word_bytes port
     ++ 0 ∷ 80 ∷ 0 ∷ 0 ∷ 0 ∷ 0 ∷ 0 ∷ 0 ∷ 0 ∷ 0 ∷ 0x50 ∷ flags ∷ 0x20 ∷ 0 ∷ 0 ∷ 0 ∷ 0 ∷ 0 ∷ []
@@ -53,8 +53,8 @@ service_with key persist = record { key = key; scheduler = Rr; persist = persist
 abbrev pub direct_server : ℕ → ℕ → ℕ → ℕ → DestSpec
 direct_server n port weight upper = record { addr = server_addr n; port = port; method = Direct; weight = weight; upper = upper; lower = 0 }
 
-abbrev pub add_service : ServiceKey → Option ℕ → Item
-add_service key persist = item.Edit (command.AddService (service_with key persist))
+abbrev pub add_example_service : ServiceKey → Option ℕ → Item
+add_example_service key persist = item.Edit (command.AddService (service_with key persist))
 
 abbrev pub add_web_server : ℕ → Item
 add_web_server n = item.Edit (command.AddServer web (direct_server n 80 1 0))
@@ -63,13 +63,13 @@ abbrev pub remove_web_server : ℕ → Item
 remove_web_server n = item.Edit (command.RemoveServer web (server_addr n) 80)
 
 abbrev pub syn : ℕ → Item
-syn port = item.Incoming 0 (tcp_packet port 2)
+syn port = item.Incoming 0 (web_packet port 2)
 
 abbrev pub ack : ℕ → Item
-ack port = item.Incoming 0 (tcp_packet port 16)
+ack port = item.Incoming 0 (web_packet port 16)
 
 abbrev pub reset : ℕ → Item
-reset port = item.Incoming 0 (tcp_packet port 4)
+reset port = item.Incoming 0 (web_packet port 4)
 
 -- the packet goes to 192.168.0.n as it came
 abbrev pub direct_to : ℕ → List ℕ → Reply

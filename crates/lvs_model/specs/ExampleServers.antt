@@ -15,6 +15,6 @@ idle id weight = loaded id weight 0 0
 abbrev pub closed : ℕ → ℕ → Candidate
 closed id weight = record (idle id weight) { eligible = false }
 
--- a cursor after the server of that id, with that number
+-- a cursor after the server of that id, with that current weight
 abbrev pub cursor_after : ℕ → ℕ → Cursor
-cursor_after id number = record { last = Some (record { 0 = id }); cw = number }
+cursor_after id current_weight = record { last = Some (record { 0 = id }); cw = current_weight }

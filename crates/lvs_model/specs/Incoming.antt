@@ -45,9 +45,9 @@ is_time_wait (Some Listen) = false
 is_time_wait (Some SynAck) = false
 
 -- a live server without weight
-abbrev pub is_quiet : Option Dest → Bool
-is_quiet None = false
-is_quiet (Some d) = d.live && (d.spec.weight == 0)
+abbrev pub is_quiescent : Option Dest → Bool
+is_quiescent None = false
+is_quiescent (Some d) = d.live && (d.spec.weight == 0)
 
 abbrev pub is_trashed : Option Dest → Bool
 is_trashed None = false
@@ -62,7 +62,7 @@ server_named (Some id) dests = dest_at id dests
 abbrev pub is_reused : Settings → Packet → Entry → Option Dest → Bool
 is_reused settings p e server =
     is_syn_of p.proto p.head
-    && (((settings.reuse_mode == 1) && is_time_wait e.state) || (nat_lt 0 settings.expire_nodest && is_quiet server))
+    && (((settings.reuse_mode == 1) && is_time_wait e.state) || (nat_lt 0 settings.expire_nodest && is_quiescent server))
 
 -- the server of the connection was removed: with expire_nodest_conn the entry ends, else it stays as it is
 abbrev pub gone : State → Entry → Reply × State

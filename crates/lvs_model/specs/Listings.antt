@@ -192,9 +192,9 @@ text_of tables (shown.IcmpIn bytes) = icmp_text (icmp_answer tables Inward bytes
 text_of tables (shown.IcmpOut bytes) = icmp_text (icmp_answer tables Outward bytes)
 
 -- a listing of a director as it is now
-abbrev pub shown_text : State → Shown → ShownText
-shown_text s kind = record { kind = kind; text = text_of (snapshot_of s) kind }
+abbrev pub shown_listing : State → Shown → ShownText
+shown_listing s kind = record { kind = kind; text = text_of (snapshot_of s) kind }
 
 -- the listings that are asked for, in order
 abbrev pub shown_of : State → List Shown → List ShownText
-shown_of s kinds = map (shown_text s) kinds
+shown_of s kinds = map (shown_listing s) kinds

@@ -14,8 +14,8 @@ greatest_weight (server ∷ servers) = max server.weight (greatest_weight server
 abbrev pub heaviest : (Candidate → Bool) → List Candidate → Option ℕ
 heaviest passes servers = position (λ server. passes server && (server.weight == greatest_weight (filter passes servers))) servers
 
-abbrev pub is_eligible : Candidate → Bool
-is_eligible server = server.eligible
+abbrev pub is_eligible_candidate : Candidate → Bool
+is_eligible_candidate server = server.eligible
 
 -- the server has at most as many active connections as its weight
 abbrev pub has_room : Candidate → Bool
@@ -23,7 +23,7 @@ has_room server = server.eligible && nat_le server.active server.weight
 
 -- weighted failover: the eligible server of greatest weight (ipvsadm(8), fo)
 abbrev pub pick_fo : List Candidate → Option ℕ
-pick_fo servers = heaviest is_eligible servers
+pick_fo servers = heaviest is_eligible_candidate servers
 
 -- weighted overflow: the same among the servers with room (ipvsadm(8), ovf)
 abbrev pub pick_ovf : List Candidate → Option ℕ
@@ -34,13 +34,13 @@ abbrev pub total_weight : List Candidate → ℕ
 total_weight servers = sum_by (λ (server : Candidate). server.weight) servers
 
 -- how many slots a server takes in a round of mh, where the weights add up to total: none without a weight (this project's profile)
-abbrev pub turns : ℕ → Candidate → ℕ
-turns total server = if server.weight == 0 then 0 else max 1 (64 * server.weight / total)
+abbrev pub slots_a_round : ℕ → Candidate → ℕ
+slots_a_round total server = if server.weight == 0 then 0 else max 1 (64 * server.weight / total)
 
 -- a round of mh: the places of the servers in order, from the given one on, each as many times as its turns
 abbrev pub round_from : ℕ → ℕ → List Candidate → List ℕ
 round_from total place [] = []
-round_from total place (server ∷ servers) = replicate (turns total server) place ++ round_from total (place + 1) servers
+round_from total place (server ∷ servers) = replicate (slots_a_round total server) place ++ round_from total (place + 1) servers
 
 -- who takes the next so many slots: the rest of a round, and then rounds over and over
 abbrev pub takers : ℕ → List ℕ → List ℕ → List ℕ

@@ -58,8 +58,8 @@ filled (byte ∷ bytes) = Some (byte ∷ bytes)
 -- A LINE OUTSIDE LISTINGS
 
 -- `round NUMBER at MOMENT workers W buckets B`; 32 is the blank
-abbrev pub head_of : List ℕ → Option ReportLine
-head_of text = do
+abbrev pub head_line_of : List ℕ → Option ReportLine
+head_line_of text = do
   from_number ← behind (codes "round ") text
   number ← number_up_to 32 greatest_long from_number
   from_moment ← behind (codes "at ") number.1
@@ -71,8 +71,8 @@ head_of text = do
   Some (line.Head number.0 moment.0 workers.0 buckets)
 
 -- `PLACE ACTOR.NUMBER REPLY`, with any reply of at least one byte; 46 is the dot
-abbrev pub act_of : List ℕ → Option ReportLine
-act_of text = do
+abbrev pub act_line_of : List ℕ → Option ReportLine
+act_line_of text = do
   place ← number_up_to 32 greatest_long text
   actor ← number_up_to 46 greatest_int place.1
   number ← number_up_to 32 greatest_long actor.1
@@ -115,11 +115,11 @@ abbrev pub shown_named : List ℕ → Option Shown
 shown_named text = or_else (table_named text) (or_else (error_named (codes "icmp in ") shown.IcmpIn text) (error_named (codes "icmp out ") shown.IcmpOut text))
 
 -- the first line of a listing: a listing without lines so far
-abbrev pub listing_of : List ℕ → Option ReportLine
-listing_of text = option_map (λ (kind : Shown). line.Shown (record { kind = kind; text = [] })) (shown_named text)
+abbrev pub listing_line_of : List ℕ → Option ReportLine
+listing_line_of text = option_map (λ (kind : Shown). line.Shown (record { kind = kind; text = [] })) (shown_named text)
 
 abbrev pub line_of : List ℕ → Option ReportLine
-line_of text = or_else (head_of text) (or_else (act_of text) (listing_of text))
+line_of text = or_else (head_line_of text) (or_else (act_line_of text) (listing_line_of text))
 
 -- A LINE
 
@@ -129,10 +129,10 @@ pub record LineRead : Type 0 where
   pub open_listing : Option ShownText
 
 -- outside listings: a head and an act are whole with their line, a listing is open behind its first one
-abbrev pub begun : ReportLine → LineRead
-begun (line.Head number moment workers buckets) = record { whole = line.Head number moment workers buckets ∷ []; open_listing = None }
-begun (line.Act place actor number reply) = record { whole = line.Act place actor number reply ∷ []; open_listing = None }
-begun (line.Shown listing) = record { whole = []; open_listing = Some listing }
+abbrev pub outside_listing : ReportLine → LineRead
+outside_listing (line.Head number moment workers buckets) = record { whole = line.Head number moment workers buckets ∷ []; open_listing = None }
+outside_listing (line.Act place actor number reply) = record { whole = line.Act place actor number reply ∷ []; open_listing = None }
+outside_listing (line.Shown listing) = record { whole = []; open_listing = Some listing }
 
 -- the line that ends a listing
 abbrev pub is_end : List ℕ → Bool
@@ -145,16 +145,16 @@ continued listing text =
     else record { whole = []; open_listing = Some (record listing { text = listing.text ++ text ++ 10 ∷ [] }) }
 
 -- a line, by the listing that is open before it
-abbrev pub line_read : Option ShownText → List ℕ → Option LineRead
-line_read None text = option_map begun (line_of text)
-line_read (Some listing) text = Some (continued listing text)
+abbrev pub report_line_read : Option ShownText → List ℕ → Option LineRead
+report_line_read None text = option_map outside_listing (line_of text)
+report_line_read (Some listing) text = Some (continued listing text)
 
 -- A REPORT
 
 -- more lines behind these, or the refusal
 abbrev pub onto : List ReportLine → Result (List ReportLine) ℕ → Result (List ReportLine) ℕ
-onto front (Ok lines) = Ok (front ++ lines)
-onto front (Err number) = Err number
+onto prefix (Ok lines) = Ok (prefix ++ lines)
+onto prefix (Err number) = Err number
 
 -- what the line of that number gives, and then the rest
 abbrev pub read_then : ℕ → Option LineRead → (Option ShownText → Result (List ReportLine) ℕ) → Result (List ReportLine) ℕ
@@ -171,7 +171,7 @@ ended number (Some listing) last = Err number
 abbrev pub lines_from : ℕ → Option ShownText → List (List ℕ) → Result (List ReportLine) ℕ
 lines_from number listing [] = Err number
 lines_from number listing (last ∷ []) = ended number listing last
-lines_from number listing (text ∷ next ∷ more) = read_then number (line_read listing text) (λ (later : Option ShownText). lines_from (number + 1) later (next ∷ more))
+lines_from number listing (text ∷ next ∷ more) = read_then number (report_line_read listing text) (λ (later : Option ShownText). lines_from (number + 1) later (next ∷ more))
 
 -- the heads, acts and listings of a report, or the number of its first line outside the grammar, from 1
 abbrev pub report_of : List ℕ → Result (List ReportLine) ℕ

@@ -30,9 +30,9 @@ abbrev pub saved_command : List ℕ → Result Command BadWord
 saved_command text = if is_readable text then command_of_line (line_of_words (words_of text)) else refused 0 cause.UnknownOption
 
 -- a refusal at the line of that number
-abbrev pub at_line : {A : Type 0} → ℕ → Result A BadWord → Result A BadSaved
-at_line number (Ok read) = Ok read
-at_line number (Err bad) = Err (record { line = number; at = bad.at; cause = bad.cause })
+abbrev pub at_saved_line : {A : Type 0} → ℕ → Result A BadWord → Result A BadSaved
+at_saved_line number (Ok read) = Ok read
+at_saved_line number (Err bad) = Err (record { line = number; at = bad.at; cause = bad.cause })
 
 -- the command of a line, or none where the line is skipped: it has no words, or begins a comment
 abbrev pub some_command : Result Command BadWord → Result (Option Command) BadWord
@@ -46,7 +46,7 @@ saved_line text = if is_skipped (words_of text) then Ok None else some_command (
 abbrev pub saved_commands : ℕ → List (List ℕ) → Result (List Command) BadSaved
 saved_commands number [] = Ok []
 saved_commands number (text ∷ texts) = do
-  command ← at_line number (saved_line text)
+  command ← at_saved_line number (saved_line text)
   commands ← saved_commands (number + 1) texts
   Ok (option_to_list command ++ commands)
 

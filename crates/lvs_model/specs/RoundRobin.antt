@@ -1,4 +1,4 @@
--- Whose turn it is: round robin, plain and by weight (rr and wrr of ipvsadm(8); the turns and the numbers are this project's profile).
+-- Whose turn it is: round robin, plain and by weight (rr and wrr of ipvsadm(8); the turns and the current weights are this project's profile).
 use Rattle.std.specs.Prelude.{◌≡◌, ℕ, ◌<◌, length, slice_get, zero, suc, ◌+◌, ◌-◌, ◌%◌, max, Bool, true, false, ◌&&◌, ◌||◌, ◌==◌, nat_le, nat_lt, if◌then◌else◌, List, [], ◌∷◌, ◌++◌, map, take, Option, Some, None}
 use Rattle.std.specs.Option.{option_map}
 use Rattle.std.specs.List.{find, filter, list_any, list_all, enumerate_from, after_first, position_or_len}
@@ -57,45 +57,45 @@ greatest_divisor zero ns = 0
 greatest_divisor (suc d) ns = if divides_all (suc d) ns then suc d else greatest_divisor d ns
 
 -- the greatest common divisor of the numbers of a list
-abbrev pub common_divisor : List ℕ → ℕ
-common_divisor ns = greatest_divisor (greatest ns) ns
+abbrev pub greatest_common_divisor : List ℕ → ℕ
+greatest_common_divisor ns = greatest_divisor (greatest ns) ns
 
--- the number that follows in the next round: less by the greatest common divisor, and the greatest weight where that is 0 or less, or above the greatest weight
-abbrev pub next_number : List ℕ → ℕ → ℕ
-next_number weights cw =
-    let next = cw - common_divisor weights in
+-- the current weight of the next round: less by the greatest common divisor, and the greatest weight where that is 0 or less, or above the greatest weight
+abbrev pub next_current_weight : List ℕ → ℕ → ℕ
+next_current_weight weights cw =
+    let next = cw - greatest_common_divisor weights in
     if (next == 0) || nat_lt (greatest weights) next then greatest weights else next
 
--- a candidate with its place, and the number that its weight is measured by
+-- a candidate with its place, and the current weight that its own is measured by
 pub record Offer : Type 0 where
   pub place : ℕ
   pub server : Candidate
-  pub number : ℕ
+  pub current_weight : ℕ
 
 abbrev pub offer : ℕ → ℕ × Candidate → Offer
-offer number p = record { place = p.0; server = p.1; number = number }
+offer current_weight p = record { place = p.0; server = p.1; current_weight = current_weight }
 
--- what is looked at, in order: the candidates after the one that was picked last, each with the present number, and then all with the next number
+-- what is looked at, in order: the candidates after the one that was picked last, each with the present current weight, and then all with the next one
 abbrev pub offers : List Candidate → Cursor → List Offer
-offers cs cursor = map (offer cursor.cw) (after_last cs cursor) ++ map (offer (next_number (eligible_weights cs) cursor.cw)) (placed cs)
+offers cs cursor = map (offer cursor.cw) (after_last cs cursor) ++ map (offer (next_current_weight (eligible_weights cs) cursor.cw)) (placed cs)
 
 -- the candidate is eligible and has at least that weight
 abbrev pub is_taken : Offer → Bool
-is_taken o = o.server.eligible && nat_le o.number o.server.weight
+is_taken o = o.server.eligible && nat_le o.current_weight o.server.weight
 
 abbrev pub offer_turn : Offer → ℕ × Cursor
-offer_turn o = (o.place, record { last = Some o.server.id; cw = o.number })
+offer_turn o = (o.place, record { last = Some o.server.id; cw = o.current_weight })
 
--- wrr: the first offer that is taken, whose number is kept (ipvsadm(8), wrr)
+-- wrr: the first offer that is taken, whose current weight is kept (ipvsadm(8), wrr)
 abbrev pub pick_wrr : List Candidate → Cursor → Option (ℕ × Cursor)
 pick_wrr cs cursor = option_map offer_turn (find is_taken (offers cs cursor))
 
 -- a place, and those that follow from the cursor that is left
-abbrev pub turns_from : Option (ℕ × Cursor) → (Cursor → List ℕ) → List ℕ
-turns_from None later = []
-turns_from (Some turn) later = turn.0 ∷ later turn.1
+abbrev pub picks_from : Option (ℕ × Cursor) → (Cursor → List ℕ) → List ℕ
+picks_from None later = []
+picks_from (Some turn) later = turn.0 ∷ later turn.1
 
 -- the places of so many picks in a row, each with the cursor that the one before left
-abbrev pub turns : (List Candidate → Cursor → Option (ℕ × Cursor)) → List Candidate → Cursor → ℕ → List ℕ
-turns pick cs cursor zero = []
-turns pick cs cursor (suc n) = turns_from (pick cs cursor) (λ next. turns pick cs next n)
+abbrev pub picks_in_turn : (List Candidate → Cursor → Option (ℕ × Cursor)) → List Candidate → Cursor → ℕ → List ℕ
+picks_in_turn pick cs cursor zero = []
+picks_in_turn pick cs cursor (suc n) = picks_from (pick cs cursor) (λ next. picks_in_turn pick cs next n)

@@ -28,8 +28,8 @@ use Rattle.lvs_model.specs.Packets.{Packet, key_of, may_connect}
 use Rattle.lvs_model.specs.Forwarding.{state_after, direction_in, in_state, records_due, forwarded}
 
 -- the port to which a connection goes: the server's, or the packet's where the server takes every port
-abbrev pub port_at : Dest → Head → ℕ
-port_at d head = if d.spec.port == 0 then head.dport else d.spec.port
+abbrev pub connection_port : Dest → Head → ℕ
+connection_port d head = if d.spec.port == 0 then head.dport else d.spec.port
 
 abbrev pub mark_of : ServiceKey → ℕ
 mark_of (Net proto addr port) = 0
@@ -49,7 +49,7 @@ new_entry s p service d template =
       server = Some d.id;
       method = d.spec.method;
       daddr = d.spec.addr;
-      dport = port_at d p.head;
+      dport = connection_port d p.head;
       state = None;
       timeout = 0;
       deadline = 0;
@@ -79,7 +79,7 @@ is_one_packet service Udp = service.one_packet
 -- the packet goes to the server: with one-packet scheduling it leaves no entry
 abbrev pub connect_to : State → Packet → Service → Dest → Option TemplateId → Reply × State
 connect_to s p service d template =
-    if is_one_packet service p.proto then (forwarded s p d.spec.method d.spec.addr (port_at d p.head), s)
+    if is_one_packet service p.proto then (forwarded s p d.spec.method d.spec.addr (connection_port d p.head), s)
     else enter s p (new_entry s p service d template) d
 
 -- the cursor of a service becomes this one

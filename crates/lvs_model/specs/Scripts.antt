@@ -87,9 +87,9 @@ refuse_if true why = Err why
 refuse_if false why = Ok tt
 
 -- the value, or the cause where there is none
-abbrev pub needed : {A : Type 0} → ScriptCause → Option A → Result A ScriptCause
-needed why None = Err why
-needed why (Some x) = Ok x
+abbrev pub or_cause : {A : Type 0} → ScriptCause → Option A → Result A ScriptCause
+or_cause why None = Err why
+or_cause why (Some x) = Ok x
 
 -- where a kind of line may stand: `local` once, before the first `at`; every other one but `at` after an `at`
 abbrev pub checked_place : LineName → ScriptRead → Result (Unit {0}) ScriptCause
@@ -131,7 +131,7 @@ two_words _ = Err cause.WordCount
 
 -- SECONDS and MARK: 1 to 10 digits, below 2 ^ 32
 abbrev pub number_given : List ℕ → Result ℕ ScriptCause
-number_given word = needed cause.BadNumber (number_of 10 4294967295 word)
+number_given word = or_cause cause.BadNumber (number_of 10 4294967295 word)
 
 -- a listing
 abbrev pub listing_line : Shown → List (List ℕ) → Result ScriptLine ScriptCause
@@ -152,7 +152,7 @@ icmp_shown Outward bytes = shown.IcmpOut bytes
 abbrev pub icmp_line : List (List ℕ) → Result ScriptLine ScriptCause
 icmp_line words = do
   both ← two_words words
-  side ← needed cause.WordCount (side_of_word both.0)
+  side ← or_cause cause.WordCount (side_of_word both.0)
   bytes ← bytes_of both.1
   Ok (line.Show (icmp_shown side bytes))
 
@@ -190,7 +190,7 @@ with_line l s =
 abbrev pub take_local : List (List ℕ) → ScriptRead → Result ScriptRead ScriptCause
 take_local words s = do
   word ← one_word words
-  addr ← needed cause.BadAddress (addr_of word)
+  addr ← or_cause cause.BadAddress (addr_of word)
   Ok (record s { local = Some addr })
 
 -- a round of a moment that is less than the one before, or too many rounds
@@ -218,10 +218,10 @@ take_kind name.At words s = take_at words s
 take_kind kind words s = take_round_line kind words s
 
 -- a line that isn't skipped, by its words
-abbrev pub take_words : List (List ℕ) → ScriptRead → Result ScriptRead ScriptCause
-take_words [] s = Ok s
-take_words (first ∷ words) s = do
-  kind ← needed cause.UnknownLine (line_named first)
+abbrev pub take_line_words : List (List ℕ) → ScriptRead → Result ScriptRead ScriptCause
+take_line_words [] s = Ok s
+take_line_words (first ∷ words) s = do
+  kind ← or_cause cause.UnknownLine (line_named first)
   _ ← checked_place kind s
   take_kind kind words s
 
@@ -229,7 +229,7 @@ take_words (first ∷ words) s = do
 abbrev pub take_line : List ℕ → ScriptRead → Result ScriptRead ScriptCause
 take_line text s =
     if is_skipped (words_of text) then Ok s
-    else if is_readable text then take_words (words_of text) s
+    else if is_readable text then take_line_words (words_of text) s
     else Err cause.UnknownLine
 
 -- A SCRIPT

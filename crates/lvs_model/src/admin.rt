@@ -73,7 +73,7 @@ pub struct GivenService {
 
 /// An address with a port, where one is written.
 #[derive(Clone, Copy, Debug, PartialEq, Eq)]
-pub struct Endpoint {
+pub struct GivenEndpoint {
     pub addr: Addr,
     pub port: Option<u16>,
 }
@@ -93,7 +93,7 @@ pub struct WordsRead {
     pub mask_bits: Option<u8>,
     /// The number of the word `-o`.
     pub one_packet_at: Option<usize>,
-    pub server: Option<Endpoint>,
+    pub server: Option<GivenEndpoint>,
     pub method: Option<Method>,
     pub weight: Option<u32>,
     pub upper: Option<u32>,

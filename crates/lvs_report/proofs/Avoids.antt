@@ -38,17 +38,17 @@ pub rest_of_and : (a b : Bool) → (a && b) ≡ true → b ≡ true
 rest_of_and true b is = is
 rest_of_and false b is = absurd cc
 
-pub both : (byte : ℕ) (front text : List ℕ) → avoids byte front ≡ true → avoids byte text ≡ true → avoids byte (front ++ text) ≡ true
-both byte front text first second = list_all-append (λ (b : ℕ). not (b == byte)) front text ∙ and_true _ _ first second
+pub both : (byte : ℕ) (prefix text : List ℕ) → avoids byte prefix ≡ true → avoids byte text ≡ true → avoids byte (prefix ++ text) ≡ true
+both byte prefix text first second = list_all-append (λ (b : ℕ). not (b == byte)) prefix text ∙ and_true _ _ first second
 
 -- pieces behind one another, as the texts are written
 abbrev pub glue : List ℕ → List (List ℕ) → List ℕ
-glue front [] = front
-glue front (piece ∷ pieces) = glue (front ++ piece) pieces
+glue prefix [] = prefix
+glue prefix (piece ∷ pieces) = glue (prefix ++ piece) pieces
 
-pub all_avoid : (byte : ℕ) (front : List ℕ) (pieces : List (List ℕ)) → avoids byte front ≡ true → AllByRecursion (λ (piece : List ℕ). avoids byte piece ≡ true) pieces → avoids byte (glue front pieces) ≡ true
-all_avoid byte front [] first rest = first
-all_avoid byte front (piece ∷ pieces) first rest = all_avoid byte (front ++ piece) pieces (both byte front piece first rest.0) rest.1
+pub all_avoid : (byte : ℕ) (prefix : List ℕ) (pieces : List (List ℕ)) → avoids byte prefix ≡ true → AllByRecursion (λ (piece : List ℕ). avoids byte piece ≡ true) pieces → avoids byte (glue prefix pieces) ≡ true
+all_avoid byte prefix [] first rest = first
+all_avoid byte prefix (piece ∷ pieces) first rest = all_avoid byte (prefix ++ piece) pieces (both byte prefix piece first rest.0) rest.1
 
 -- the digits of numbers
 

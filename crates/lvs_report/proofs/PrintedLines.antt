@@ -8,7 +8,7 @@ use Rattle.std.proofs.lemmas.Bool.Decides.{nat_tests}
 use Rattle.std.proofs.lemmas.Fmt.{decimal_nonempty}
 use Rattle.lvs_types.specs.declared.report.ReportLine.TheVariants as line
 use Rattle.lvs_model.specs.Decimals.{cut_at}
-use Rattle.lvs_model.specs.ReportReading.{number_up_to, behind, filled, head_of, act_of, line_of, greatest_long, greatest_int}
+use Rattle.lvs_model.specs.ReportReading.{number_up_to, behind, filled, head_line_of, act_line_of, line_of, greatest_long, greatest_int}
 use Rattle.lvs_report.proofs.Avoids.{avoids, decimal_avoids, first_of_and, rest_of_and}
 use Rattle.lvs_report.proofs.Numerals.{are_digits, plain_decimal}
 
@@ -30,15 +30,15 @@ abbrev cut_of : ℕ → List ℕ → Cut
 cut_of n text = cond (nat_lt n (length text)) (Some (take n text, drop (n + 1) text)) None
 
 abbrev parts : List ℕ → List ℕ → Cut
-parts front after = Some (front, after)
+parts prefix after = Some (prefix, after)
 
 cut_by_length : (byte : ℕ) (word rest : List ℕ) → cut_of (length word) (word ++ byte ∷ rest) ≡ parts word rest
 cut_by_length byte word rest =
     let long : length (word ++ byte ∷ rest) ≡ length word + length (byte ∷ rest) = length-append word (byte ∷ rest) in
     let before : nat_lt (length word) (length (word ++ byte ∷ rest)) ≡ true = grind (arith, nat_tests) in
-    let front : take (length word) (word ++ byte ∷ rest) ≡ word = take-append_seam word (byte ∷ rest) in
+    let prefix : take (length word) (word ++ byte ∷ rest) ≡ word = take-append_seam word (byte ∷ rest) in
     let after : drop (length word + 1) (word ++ byte ∷ rest) ≡ rest = drop-append-add word (byte ∷ rest) 1 in
-    rw (before, front, after) refl
+    rw (before, prefix, after) refl
 
 cut_own : (byte : ℕ) (word rest : List ℕ) → (byte == byte) ≡ true → avoids byte word ≡ true → cut_at byte (word ++ byte ∷ rest) ≡ parts word rest
 cut_own byte word rest same well = ap (λ (n : ℕ). cut_of n (word ++ byte ∷ rest)) (place_of byte word rest same well) ∙ cut_by_length byte word rest
@@ -62,7 +62,7 @@ abbrev pub head_line : ℕ → ℕ → ℕ → ℕ → List ℕ
 head_line number moment workers buckets =
     codes "round " ++ (decimal number ++ (codes " at " ++ (decimal moment ++ (codes " workers " ++ (decimal workers ++ (codes " buckets " ++ decimal buckets))))))
 
-pub head_own : (number moment workers buckets : ℕ) → number < 2 ^ 64 → moment < 2 ^ 64 → workers < 2 ^ 32 → buckets < 2 ^ 32 → head_of (head_line number moment workers buckets) ≡ Some (line.Head number moment workers buckets)
+pub head_own : (number moment workers buckets : ℕ) → number < 2 ^ 64 → moment < 2 ^ 64 → workers < 2 ^ 32 → buckets < 2 ^ 32 → head_line_of (head_line number moment workers buckets) ≡ Some (line.Head number moment workers buckets)
 head_own number moment workers buckets n m w b =
     let last = codes "buckets " ++ decimal buckets in
     let third = codes "workers " ++ (decimal workers ++ 32 ∷ last) in
@@ -78,7 +78,7 @@ head_own number moment workers buckets n m w b =
 abbrev pub act_body : ℕ → ℕ → ℕ → List ℕ → List ℕ
 act_body place actor number reply = decimal place ++ 32 ∷ (decimal actor ++ 46 ∷ (decimal number ++ 32 ∷ reply))
 
-act_own : (place actor number : ℕ) (reply : List ℕ) → place < 2 ^ 64 → actor < 2 ^ 32 → number < 2 ^ 64 → filled reply ≡ Some reply → act_of (act_body place actor number reply) ≡ Some (line.Act place actor number reply)
+act_own : (place actor number : ℕ) (reply : List ℕ) → place < 2 ^ 64 → actor < 2 ^ 32 → number < 2 ^ 64 → filled reply ≡ Some reply → act_line_of (act_body place actor number reply) ≡ Some (line.Act place actor number reply)
 act_own place actor number reply p a n full =
     let second = decimal number ++ 32 ∷ reply in
     let first = decimal actor ++ 46 ∷ second in

@@ -11,7 +11,7 @@ use Rattle.lvs_types.specs.declared.report.ReportLine.{ReportLine}
 use Rattle.lvs_types.specs.declared.report.ReportLine.TheVariants as line
 use Rattle.lvs_model.specs.Lines.{is_feed}
 use Rattle.lvs_model.specs.Report.{is_printed, reply_text, act_line, act_text, acts_text, shown_name, shown_text, listings_text, head_text, round_text}
-use Rattle.lvs_model.specs.ReportReading.{LineRead, begun, is_end, line_read, onto, read_then, lines_from, report_of}
+use Rattle.lvs_model.specs.ReportReading.{LineRead, outside_listing, is_end, report_line_read, onto, read_then, lines_from, report_of}
 use Rattle.lvs_model.specs.ReportLines.{act_lines, report_lines, are_lines, is_table, is_read_again, IsActInRange, IsReadAgain}
 use Rattle.lvs_report.proofs.Avoids.{avoids, both, glue, decimal_avoids, reply_avoids, reply_filled, and_true, first_of_and, rest_of_and}
 use Rattle.lvs_report.proofs.PrintedLines.{head_line, head_line_own, act_body, act_line_own}
@@ -41,12 +41,12 @@ split_line [] rest well = refl
 split_line (b ∷ text) rest well =
     split_by b (is_feed b) text (slice_split is_feed (text ++ 10 ∷ rest)) (slice_split is_feed rest) (first_of_and _ _ well) (split_line text rest (rest_of_and _ _ well))
 
-from_line : (number : ℕ) (listing : Option ShownText) (text rest : List ℕ) → avoids 10 text ≡ true → from number listing (text ++ 10 ∷ rest) ≡ read_then number (line_read listing text) (λ (later : Option ShownText). from (number + 1) later rest)
+from_line : (number : ℕ) (listing : Option ShownText) (text rest : List ℕ) → avoids 10 text ≡ true → from number listing (text ++ 10 ∷ rest) ≡ read_then number (report_line_read listing text) (λ (later : Option ShownText). from (number + 1) later rest)
 from_line number listing text rest well =
     ap (lines_from number listing) (split_line text rest well) ∙ more_pieces number listing text (slice_split is_feed rest) (omega (arith, length-slice_split is_feed rest))
 
 -- a line outside listings
-reads_line : (text rest : List ℕ) (read : LineRead) (lines : List ReportLine) → avoids 10 text ≡ true → line_read None text ≡ Some read → read.open_listing ≡ None → Reads rest lines → Reads (text ++ 10 ∷ rest) (read.whole ++ lines)
+reads_line : (text rest : List ℕ) (read : LineRead) (lines : List ReportLine) → avoids 10 text ≡ true → report_line_read None text ≡ Some read → read.open_listing ≡ None → Reads rest lines → Reads (text ++ 10 ∷ rest) (read.whole ++ lines)
 reads_line text rest read lines well is closed later = λ number.
     from_line number None text rest well
     ∙ ap (λ (o : Option LineRead). read_then number o (λ (later : Option ShownText). from (number + 1) later rest)) is
@@ -59,9 +59,9 @@ abbrev chain : List (List ℕ) → List ℕ → List ℕ
 chain [] last = last
 chain (piece ∷ pieces) last = piece ++ chain pieces last
 
-unglue : (front : List ℕ) (pieces : List (List ℕ)) (rest : List ℕ) → glue front pieces ++ rest ≡ front ++ chain pieces rest
-unglue front [] rest = refl
-unglue front (piece ∷ pieces) rest = unglue (front ++ piece) pieces rest ∙ append_assoc front piece (chain pieces rest)
+unglue : (prefix : List ℕ) (pieces : List (List ℕ)) (rest : List ℕ) → glue prefix pieces ++ rest ≡ prefix ++ chain pieces rest
+unglue prefix [] rest = refl
+unglue prefix (piece ∷ pieces) rest = unglue (prefix ++ piece) pieces rest ∙ append_assoc prefix piece (chain pieces rest)
 
 chain_append : (pieces : List (List ℕ)) (last rest : List ℕ) → chain pieces (last ++ rest) ≡ chain pieces last ++ rest
 chain_append [] last rest = refl
@@ -94,9 +94,9 @@ head_avoids book =
 reads_head : (book : RoundBook) (rest : List ℕ) (lines : List ReportLine) → IsReadAgain book → Reads rest lines → Reads (head_text book ++ rest) (line.Head book.number book.moment book.workers book.buckets ∷ lines)
 reads_head book rest lines again later = λ number.
     let known = head_line_own book.number book.moment book.workers book.buckets again.number again.moment again.workers again.buckets in
-    let read : line_read None (head_front book) ≡ Some (begun (line.Head book.number book.moment book.workers book.buckets)) = rw known refl in
+    let read : report_line_read None (head_front book) ≡ Some (outside_listing (line.Head book.number book.moment book.workers book.buckets)) = rw known refl in
     ap (from number None) (head_is book rest)
-    ∙ reads_line (head_front book) rest (begun (line.Head book.number book.moment book.workers book.buckets)) lines (head_avoids book) read refl later number
+    ∙ reads_line (head_front book) rest (outside_listing (line.Head book.number book.moment book.workers book.buckets)) lines (head_avoids book) read refl later number
 
 -- ACTS
 
@@ -116,9 +116,9 @@ act_avoids place act =
 reads_act : (place : ℕ) (act : Noted) (rest : List ℕ) (lines : List ReportLine) → place < 2 ^ 64 → IsActInRange act → Reads rest lines → Reads (act_line place act ++ rest) (line.Act place act.actor act.number (reply_text act.reply) ∷ lines)
 reads_act place act rest lines fits inside later = λ number.
     let known = act_line_own place act.actor act.number (reply_text act.reply) fits inside.0 inside.1 (reply_filled act.reply) in
-    let read : line_read None (body_of place act) ≡ Some (begun (line.Act place act.actor act.number (reply_text act.reply))) = rw known refl in
+    let read : report_line_read None (body_of place act) ≡ Some (outside_listing (line.Act place act.actor act.number (reply_text act.reply))) = rw known refl in
     ap (from number None) (act_is place act rest)
-    ∙ reads_line (body_of place act) rest (begun (line.Act place act.actor act.number (reply_text act.reply))) lines (act_avoids place act) read refl later number
+    ∙ reads_line (body_of place act) rest (outside_listing (line.Act place act.actor act.number (reply_text act.reply))) lines (act_avoids place act) read refl later number
 
 reads_if : (printed : Bool) (place : ℕ) (act : Noted) (rest : List ℕ) (lines : List ReportLine) → place < 2 ^ 64 → IsActInRange act → Reads rest lines → Reads (cond printed (act_line place act) [] ++ rest) (cond printed (line.Act place act.actor act.number (reply_text act.reply) ∷ []) [] ++ lines)
 reads_if true place act rest lines fits inside later = reads_act place act rest lines fits inside later
@@ -181,7 +181,7 @@ listing_lines (text ∷ next ∷ more) number kind before rest lines all whole l
     ∙ ap (λ (text : List ℕ). found (line.Shown (open_with kind text) ∷ lines)) same
 
 -- the first line of a listing
-first_line : (kind : Shown) → is_table kind ≡ true → (avoids 10 (shown_name kind) ≡ true) × (line_read None (shown_name kind) ≡ Some (record { whole = []; open_listing = Some (open_with kind []) }))
+first_line : (kind : Shown) → is_table kind ≡ true → (avoids 10 (shown_name kind) ≡ true) × (report_line_read None (shown_name kind) ≡ Some (record { whole = []; open_listing = Some (open_with kind []) }))
 first_line shown.List table = (refl, refl)
 first_line shown.Conns table = (refl, refl)
 first_line shown.Save table = (refl, refl)

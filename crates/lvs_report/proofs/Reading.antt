@@ -5,7 +5,7 @@ use Rattle.std.proofs.lemmas.List.Splits.{length-slice_split}
 use Rattle.lvs_types.specs.declared.book.ShownText.{ShownText}
 use Rattle.lvs_types.specs.declared.report.ReportLine.{ReportLine}
 use Rattle.lvs_model.specs.Lines.{is_feed, cut_by}
-use Rattle.lvs_model.specs.ReportReading.{LineRead, line_read, onto, read_then, lines_from, ended}
+use Rattle.lvs_model.specs.ReportReading.{LineRead, report_line_read, onto, read_then, lines_from, ended}
 use Rattle.lvs_report.specs.Reader.{ReadSoFar, with_read, with_line}
 use Rattle.lvs_lines.proofs.Splits.{cut_pair, split_found, split_missed}
 
@@ -16,12 +16,12 @@ pub onto_onto : (first second : List ReportLine) (rest : Answer) → onto (first
 onto_onto first second (Ok lines) = ap Ok (append_assoc first second lines)
 onto_onto first second (Err number) = refl
 
-pub more_pieces : (number : ℕ) (listing : Option ShownText) (text : List ℕ) (pieces : List (List ℕ)) → 0 < length pieces → lines_from number listing (text ∷ pieces) ≡ read_then number (line_read listing text) (λ (later : Option ShownText). lines_from (number + 1) later pieces)
+pub more_pieces : (number : ℕ) (listing : Option ShownText) (text : List ℕ) (pieces : List (List ℕ)) → 0 < length pieces → lines_from number listing (text ∷ pieces) ≡ read_then number (report_line_read listing text) (λ (later : Option ShownText). lines_from (number + 1) later pieces)
 more_pieces number listing text [] some = absurd (omega arith)
 more_pieces number listing text (next ∷ more) some = refl
 
 -- the first line is read, then the rest
-pub lines_cut : (number : ℕ) (listing : Option ShownText) (text line after : List ℕ) → cut_pair line after ≡ cut_by is_feed text → lines_from number listing (slice_split is_feed text) ≡ read_then number (line_read listing line) (λ (later : Option ShownText). lines_from (number + 1) later (slice_split is_feed after))
+pub lines_cut : (number : ℕ) (listing : Option ShownText) (text line after : List ℕ) → cut_pair line after ≡ cut_by is_feed text → lines_from number listing (slice_split is_feed text) ≡ read_then number (report_line_read listing line) (λ (later : Option ShownText). lines_from (number + 1) later (slice_split is_feed after))
 lines_cut number listing text line after cut =
     ap (lines_from number listing) (split_found is_feed text line after cut) ∙ more_pieces number listing line (slice_split is_feed after) (omega (arith, length-slice_split is_feed after))
 
@@ -34,12 +34,12 @@ read_step s next number (Some read) rest is =
 
 pub lines_step : (s next : ReadSoFar) (number : ℕ) (text line after : List ℕ) (whole : Answer) → cut_pair line after ≡ cut_by is_feed text → with_line s line ≡ Some next → onto s.lines (lines_from number s.open_listing (slice_split is_feed text)) ≡ whole → onto next.lines (lines_from (number + 1) next.open_listing (slice_split is_feed after)) ≡ whole
 lines_step s next number text line after whole cut read so_far =
-    read_step s next number (line_read s.open_listing line) (λ (later : Option ShownText). lines_from (number + 1) later (slice_split is_feed after)) read
+    read_step s next number (report_line_read s.open_listing line) (λ (later : Option ShownText). lines_from (number + 1) later (slice_split is_feed after)) read
     ∙ sym (ap (onto s.lines) (lines_cut number s.open_listing text line after cut))
     ∙ so_far
 
 -- a line that is refused
-pub lines_stop : (s : ReadSoFar) (number at : ℕ) (text line after : List ℕ) (whole : Answer) → cut_pair line after ≡ cut_by is_feed text → (at ≡ number) × (line_read s.open_listing line ≡ None) → onto s.lines (lines_from number s.open_listing (slice_split is_feed text)) ≡ whole → whole ≡ Err at
+pub lines_stop : (s : ReadSoFar) (number at : ℕ) (text line after : List ℕ) (whole : Answer) → cut_pair line after ≡ cut_by is_feed text → (at ≡ number) × (report_line_read s.open_listing line ≡ None) → onto s.lines (lines_from number s.open_listing (slice_split is_feed text)) ≡ whole → whole ≡ Err at
 lines_stop s number at text line after whole cut refused so_far =
     let rest : Option ShownText → Answer = λ later. lines_from (number + 1) later (slice_split is_feed after) in
     sym so_far

@@ -4,7 +4,7 @@ use Rattle.lvs_types.specs.declared.book.ShownText.{ShownText}
 use Rattle.lvs_types.specs.declared.report.ReportLine.{ReportLine}
 use Rattle.lvs_types.specs.declared.report.ReportLine.TheVariants as line
 use Rattle.lvs_report.specs.declared.line.ActParts.{ActParts}
-use Rattle.lvs_model.specs.ReportReading.{LineRead, line_read}
+use Rattle.lvs_model.specs.ReportReading.{LineRead, report_line_read}
 
 -- the act of its parts
 abbrev pub act_from : ActParts → ReportLine
@@ -25,4 +25,4 @@ with_read s read = record { lines = s.lines ++ read.whole; open_listing = read.o
 
 -- with a line more, where it is in the grammar
 abbrev pub with_line : ReadSoFar → List ℕ → Option ReadSoFar
-with_line s text = option_map (λ (read : LineRead). with_read s read) (line_read s.open_listing text)
+with_line s text = option_map (λ (read : LineRead). with_read s read) (report_line_read s.open_listing text)

@@ -2,7 +2,7 @@
 ghost use Rattle.std.specs.Prelude.{◌≡◌, [], IfOk};
 ghost use Rattle.std.specs.Option.{option_map};
 ghost use Rattle.lvs_types.specs.declared.report.ReportLine.TheVariants as line;
-ghost use Rattle.lvs_model.specs.ReportReading.{head_of, act_of, listing_of, line_of};
+ghost use Rattle.lvs_model.specs.ReportReading.{head_line_of, act_line_of, listing_line_of, line_of};
 ghost use Rattle.lvs_report.specs.Reader.{act_from};
 
 use crate::cutting::{behind, number_up_to};
@@ -17,8 +17,8 @@ const GREATEST_LONG: u64 = 18_446_744_073_709_551_615;
 const GREATEST_INT: u64 = 4_294_967_295;
 
 /// `round NUMBER at MOMENT workers W buckets B`.
-fn head_of(text: &[u8]) -> Option<ReportLine>
-    ensures { result ≡ head_of text.now }
+fn head_line_of(text: &[u8]) -> Option<ReportLine>
+    ensures { result ≡ head_line_of text.now }
 {
     let rest = behind(b"round ", text)?;
     let (number, rest) = number_up_to(b' ', GREATEST_LONG, rest)?;
@@ -47,7 +47,7 @@ struct ActParts<'a> {
 
 /// `PLACE ACTOR.NUMBER REPLY`, with at least one byte of reply.
 fn act_parts(text: &[u8]) -> Option<ActParts<'_>>
-    ensures { option_map act_from result ≡ act_of text.now }
+    ensures { option_map act_from result ≡ act_line_of text.now }
 {
     let (place, rest) = number_up_to(b' ', GREATEST_LONG, text)?;
     let (actor, rest) = number_up_to(b'.', GREATEST_INT, rest)?;
@@ -63,8 +63,8 @@ fn act_parts(text: &[u8]) -> Option<ActParts<'_>>
     })
 }
 
-fn act_of(alloc: Global, text: &[u8]) -> Result<Option<ReportLine>, NoMemory>
-    ensures { IfOk result (λ act. act ≡ act_of text.now) }
+fn act_line_of(alloc: Global, text: &[u8]) -> Result<Option<ReportLine>, NoMemory>
+    ensures { IfOk result (λ act. act ≡ act_line_of text.now) }
 {
     match act_parts(text) {
         None => Ok(None),
@@ -78,7 +78,7 @@ fn act_of(alloc: Global, text: &[u8]) -> Result<Option<ReportLine>, NoMemory>
 }
 
 fn kind_of(text: &[u8]) -> Option<Shown>
-    ensures { option_map (λ kind. line.Shown (record { kind = kind; text = [] })) result ≡ listing_of text.now }
+    ensures { option_map (λ kind. line.Shown (record { kind = kind; text = [] })) result ≡ listing_line_of text.now }
 {
     if text == b"list".as_slice() {
         Some(Shown::List)
@@ -92,8 +92,8 @@ fn kind_of(text: &[u8]) -> Option<Shown>
 }
 
 /// The first line of a listing: a listing without lines so far.
-fn listing_of(alloc: Global, text: &[u8]) -> Option<ReportLine>
-    ensures { result ≡ listing_of text.now }
+fn listing_line_of(alloc: Global, text: &[u8]) -> Option<ReportLine>
+    ensures { result ≡ listing_line_of text.now }
 {
     let kind = kind_of(text)?;
     let text = Bytes::new(alloc);
@@ -104,11 +104,11 @@ fn listing_of(alloc: Global, text: &[u8]) -> Option<ReportLine>
 pub(crate) fn line_of(alloc: Global, text: &[u8]) -> Result<Option<ReportLine>, NoMemory>
     ensures { IfOk result (λ line. line ≡ line_of text.now) }
 {
-    if let Some(head) = head_of(text) {
+    if let Some(head) = head_line_of(text) {
         return Ok(Some(head));
     }
-    if let Some(act) = act_of(alloc, text)? {
+    if let Some(act) = act_line_of(alloc, text)? {
         return Ok(Some(act));
     }
-    Ok(listing_of(alloc, text))
+    Ok(listing_line_of(alloc, text))
 }

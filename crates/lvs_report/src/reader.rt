@@ -1,7 +1,7 @@
 //! Reading the lines of a report one after the other.
 ghost use Rattle.std.specs.Prelude.{◌≡◌, ◌++◌, ◌∷◌, [], ℕ, None, Some, Ok, Err, OnOk, IfOk};
 ghost use Rattle.lvs_report.specs.Reader.{nothing_read, with_read, with_line};
-ghost use Rattle.lvs_model.specs.ReportReading.{begun, continued, is_end, line_read, onto, ended};
+ghost use Rattle.lvs_model.specs.ReportReading.{outside_listing, continued, is_end, report_line_read, onto, ended};
 
 use crate::line::line_of;
 use crate::refused::{ReportRefused, Stop};
@@ -89,7 +89,7 @@ impl ReportReader {
     /// A head and an act are whole with their line, a listing is open behind its first one.
     fn take_begun(&mut self, line: ReportLine) -> Result<(), NoMemory>
         requires { self.old.open_listing ≡ None }
-        ensures { OnOk result (self.new ≡ with_read self.old (begun line)) }
+        ensures { OnOk result (self.new ≡ with_read self.old (outside_listing line)) }
     {
         match line {
             ReportLine::Shown(listing) => self.listing = Some(OpenListing::new(listing)),
@@ -102,7 +102,7 @@ impl ReportReader {
     fn take_outside(&mut self, line: &[u8]) -> Result<(), Stop>
         requires { self.old.open_listing ≡ None }
         ensures ok { OnOk result (with_line self.old line.now ≡ Some self.new) }
-        ensures refused { result ≡ Err Stop.Unreadable → line_read None line.now ≡ None }
+        ensures refused { result ≡ Err Stop.Unreadable → report_line_read None line.now ≡ None }
     {
         match line_of(self.alloc, line)? {
             None => Err(Stop::Unreadable),
@@ -127,7 +127,7 @@ impl ReportReader {
     /// The next line.
     pub(crate) fn take_line(&mut self, line: &[u8]) -> Result<(), Stop>
         ensures ok { OnOk result (with_line self.old line.now ≡ Some self.new) }
-        ensures refused { result ≡ Err Stop.Unreadable → line_read self.old.open_listing line.now ≡ None }
+        ensures refused { result ≡ Err Stop.Unreadable → report_line_read self.old.open_listing line.now ≡ None }
     {
         match self.listing.take() {
             None => self.take_outside(line),

@@ -1,6 +1,6 @@
 //! Reading a report.
 ghost use Rattle.std.specs.Prelude.{◌≡◌, ℕ, IfOk, OnOk, Ok, Err, Some, None};
-ghost use Rattle.lvs_model.specs.ReportReading.{line_read, report_of};
+ghost use Rattle.lvs_model.specs.ReportReading.{report_line_read, report_of};
 ghost use Rattle.lvs_report.specs.Reader.{with_line};
 
 use crate::reader::ReportReader;
@@ -12,7 +12,7 @@ use std::alloc::Global;
 /// The line of that number.
 fn take_numbered(reader: &mut ReportReader, number: u64, line: &[u8]) -> Result<(), ReportRefused>
     ensures ok { OnOk result (with_line reader.old line.now ≡ Some reader.new) }
-    ensures refused { (at : ℕ) → result ≡ Err (ReportRefused.Unreadable at) → (at ≡ number) × (line_read reader.old.open_listing line.now ≡ None) }
+    ensures refused { (at : ℕ) → result ≡ Err (ReportRefused.Unreadable at) → (at ≡ number) × (report_line_read reader.old.open_listing line.now ≡ None) }
 {
     match reader.take_line(line) {
         Ok(()) => Ok(()),

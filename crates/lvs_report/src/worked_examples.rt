@@ -2,7 +2,7 @@
 ghost use Rattle.std.specs.Prelude.{◌≡◌, ℕ, List, [], ◌∷◌, ◌++◌, codes, Ok, Err, Some, None, true, false};
 ghost use Rattle.lvs_types.specs.declared.report.ReportLine.TheVariants as line;
 ghost use Rattle.lvs_types.specs.declared.book.Shown.TheVariants as shown;
-ghost use Rattle.lvs_model.specs.ReportReading.{head_of, act_of, plain_number, report_of};
+ghost use Rattle.lvs_model.specs.ReportReading.{head_line_of, act_line_of, plain_number, report_of};
 ghost use Rattle.lvs_model.specs.ReportLines.{is_listing_text, report_lines};
 ghost use Rattle.lvs_types.specs.declared.item.Item.{Item};
 ghost use Rattle.lvs_types.specs.declared.reply.Reply.{Reply};
@@ -23,11 +23,11 @@ pub fn ends_of_reports()
 
 /// Lines outside the grammar: a head without its moment, leading zeros, an act without a reply.
 pub fn refused_lines()
-    ensures moment { head_of (codes "round 0 workers 1 buckets 1") ≡ None }
+    ensures moment { head_line_of (codes "round 0 workers 1 buckets 1") ≡ None }
     ensures zeros { plain_number 255 (codes "07") ≡ None }
     ensures zero { plain_number 255 (codes "0") ≡ Some 0 }
-    ensures reply { act_of (codes "1 2.3 ") ≡ None }
-    ensures dot { act_of (codes "1 2 3 ok") ≡ None }
+    ensures reply { act_line_of (codes "1 2.3 ") ≡ None }
+    ensures dot { act_line_of (codes "1 2 3 ok") ≡ None }
 {}
 
 /// A line that begins with `end` ends no listing; a listing's text ends with a line feed.

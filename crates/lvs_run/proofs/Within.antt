@@ -18,7 +18,7 @@ use Rattle.lvs_model.specs.Decimals.{number_of, is_number, value_after, addr_of}
 use Rattle.lvs_model.specs.Lines.{lines_of, words_of, is_readable, is_skipped}
 use Rattle.lvs_model.specs.Plans.{items_of_line, items_of_lines}
 use Rattle.lvs_types.specs.Limits.{max_items, max_rounds}
-use Rattle.lvs_model.specs.Scripts.{ScriptRead, empty_script, open_round, rounds_read, needed, one_word, number_given, refuse_if, checked_round, take_at, take_local, with_line, round_line, take_round_line, take_kind, take_words, take_line, take_lines, line_named, checked_place, at_line, script_of, script_read}
+use Rattle.lvs_model.specs.Scripts.{ScriptRead, empty_script, open_round, rounds_read, or_cause, one_word, number_given, refuse_if, checked_round, take_at, take_local, with_line, round_line, take_round_line, take_kind, take_line_words, take_line, take_lines, line_named, checked_place, at_line, script_of, script_read}
 use Rattle.lvs_run.specs.Limits.{AreMoments, items_in, IsWithinLimits}
 
 -- what was read so far is within the limits
@@ -54,7 +54,7 @@ and_right true true c e = e
 and_right true false c e = cc
 and_right false b c e = cc
 
-needed_some : {A : Type 0} (why : ScriptCause) (o : Option A) (x : A) → needed why o ≡ Ok x → o ≡ Some x
+needed_some : {A : Type 0} (why : ScriptCause) (o : Option A) (x : A) → or_cause why o ≡ Ok x → o ≡ Some x
 needed_some why None x e = cc
 needed_some why (Some y) x e = cc
 
@@ -130,12 +130,12 @@ ok_is : (s t : ScriptRead) → ◌≡◌ {A = Result ScriptRead ScriptCause} (Ok
 ok_is s t e = cc
 
 abbrev with_local : ScriptRead → List ℕ → Result ScriptRead ScriptCause
-with_local s word = needed cause.BadAddress (addr_of word) >>= (λ addr. Ok (record s { local = Some addr }))
+with_local s word = or_cause cause.BadAddress (addr_of word) >>= (λ addr. Ok (record s { local = Some addr }))
 
 keep_local : (words : List (List ℕ)) (s : ScriptRead) → Keeps s (take_local words s)
 keep_local words s t e w =
     let word = then_ok (one_word words) (with_local s) t e in
-    let addr = then_ok (needed cause.BadAddress (addr_of word.0)) (λ addr. Ok (record s { local = Some addr })) t word.2 in
+    let addr = then_ok (or_cause cause.BadAddress (addr_of word.0)) (λ addr. Ok (record s { local = Some addr })) t word.2 in
     along (record s { local = Some addr.0 }) t (ok_is (record s { local = Some addr.0 }) t addr.2) (record { moments = w.moments; items = w.items; most = w.most; few = w.few })
 
 abbrev opened : ScriptRead → ℕ → ScriptRead
@@ -184,14 +184,14 @@ keep_kind name.Save words s = keep_round_line name.Save words s
 abbrev placed : List (List ℕ) → ScriptRead → LineName → Result ScriptRead ScriptCause
 placed words s kind = checked_place kind s >>= (λ (_ : Unit {0}). take_kind kind words s)
 
-keep_words : (words : List (List ℕ)) (s : ScriptRead) → Keeps s (take_words words s)
+keep_words : (words : List (List ℕ)) (s : ScriptRead) → Keeps s (take_line_words words s)
 keep_words [] s t e w = along s t (ok_is s t e) w
 keep_words (first ∷ words) s t e w =
-    let kind = then_ok (needed cause.UnknownLine (line_named first)) (placed words s) t e in
+    let kind = then_ok (or_cause cause.UnknownLine (line_named first)) (placed words s) t e in
     let place = then_ok (checked_place kind.0 s) (λ (_ : Unit {0}). take_kind kind.0 words s) t kind.2 in
     keep_kind kind.0 words s t place.2 w
 
-keep_by : (skipped readable : Bool) (words : List (List ℕ)) (s : ScriptRead) → Keeps s (cond skipped (Ok s) (cond readable (take_words words s) (Err cause.UnknownLine)))
+keep_by : (skipped readable : Bool) (words : List (List ℕ)) (s : ScriptRead) → Keeps s (cond skipped (Ok s) (cond readable (take_line_words words s) (Err cause.UnknownLine)))
 keep_by true readable words s t e w = along s t (ok_is s t e) w
 keep_by false true words s t e w = keep_words words s t e w
 keep_by false false words s t e w = cc

@@ -2,7 +2,7 @@
 use Rattle.std.proofs.Common.{◌≡◌, ℕ, zero, suc, ◌+◌, ◌*◌, ◌<◌, ◌≤◌, cond, ◌==◌, List, [], ◌∷◌, ◌++◌, length, replicate, count_by, refl, ap, ◌∙◌, arith}
 use Rattle.std.proofs.lemmas.List.Folds.{sum_by-replicate}
 use Rattle.std.proofs.lemmas.List.Sums.{sum_by-cons, sum_by-append}
-use Rattle.lvs_model.specs.MorePicks.{takers, turns}
+use Rattle.lvs_model.specs.MorePicks.{takers}
 
 -- how often a place stands in a list
 abbrev pub times : ℕ → List ℕ → ℕ

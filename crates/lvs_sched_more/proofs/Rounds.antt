@@ -5,7 +5,7 @@ use Rattle.std.proofs.lemmas.Bool.Decides.{nat_tests}
 use Rattle.std.proofs.lemmas.List.Sums.{sum_by-cons}
 use Rattle.lvs_types.specs.declared.dest.Candidate.{Candidate}
 use Rattle.lvs_types.specs.declared.addr.Addr.{Addr}
-use Rattle.lvs_model.specs.MorePicks.{take_slot, takers, turns, round_from, mh_table}
+use Rattle.lvs_model.specs.MorePicks.{take_slot, takers, slots_a_round, round_from, mh_table}
 
 -- one server takes one slot
 pub take_step : {A : Type 0} (step : A → ℕ → A) (a : A) (place left less free fewer : ℕ) (rest round : List ℕ) → left ≡ less + 1 → free ≡ fewer + 1 → fold step a (takers free (replicate left place ++ rest) round) ≡ fold step (step a place) (takers fewer (replicate less place ++ rest) round)
@@ -18,10 +18,10 @@ next_round (suc n) [] = refl
 next_round (suc n) (place ∷ places) = refl
 
 -- without a weight nobody takes a turn, and with one somebody does
-pub turns_none : (total : ℕ) (server : Candidate) → server.weight ≡ 0 → turns total server ≡ 0
+pub turns_none : (total : ℕ) (server : Candidate) → server.weight ≡ 0 → slots_a_round total server ≡ 0
 turns_none total server none = search (rules, nat_tests)
 
-pub turns_some : (total : ℕ) (server : Candidate) → 0 < server.weight → 0 < turns total server
+pub turns_some : (total : ℕ) (server : Candidate) → 0 < server.weight → 0 < slots_a_round total server
 turns_some total server some = grind (arith, nat_tests)
 
 pub round_none : (total place : ℕ) (servers : List Candidate) → sum_by (λ (server : Candidate). server.weight) servers ≡ 0 → round_from total place servers ≡ []
@@ -31,18 +31,18 @@ round_none total place (server ∷ servers) none =
     let here = turns_none total server (omega arith) in
     rw here (round_none total (place + 1) servers (omega arith))
 
-pub some_turns : (total : ℕ) (servers : List Candidate) → 0 < sum_by (λ (server : Candidate). server.weight) servers → 0 < sum_by (turns total) servers
+pub some_turns : (total : ℕ) (servers : List Candidate) → 0 < sum_by (λ (server : Candidate). server.weight) servers → 0 < sum_by (slots_a_round total) servers
 some_turns total [] some = absurd (omega arith)
 some_turns total (server ∷ servers) some =
     let whole = sum_by-cons (λ (server : Candidate). server.weight) server servers in
-    let all = sum_by-cons (turns total) server servers in
+    let all = sum_by-cons (slots_a_round total) server servers in
     ⊎_elim
     (λ here. let turn = turns_some total server here in omega arith)
     (λ none. let later = some_turns total servers (omega arith) in omega arith)
     (cases_lt 0 server.weight)
 
 -- the server at the place, and then those behind it
-pub round_step : (total place : ℕ) (servers : List Candidate) (d : Candidate) → place < length servers → round_from total place (drop place servers) ≡ replicate (turns total (get_or servers place d)) place ++ round_from total (place + 1) (drop (place + 1) servers)
+pub round_step : (total place : ℕ) (servers : List Candidate) (d : Candidate) → place < length servers → round_from total place (drop place servers) ≡ replicate (slots_a_round total (get_or servers place d)) place ++ round_from total (place + 1) (drop (place + 1) servers)
 round_step total place servers d within = rw (drop-cons servers place d) (rw add-one refl)
 
 -- the table, with the sum of the weights as a number of its own

@@ -8,7 +8,7 @@ use Rattle.std.proofs.lemmas.List.Folds.{sum_by-replicate}
 use Rattle.std.proofs.lemmas.List.Sums.{sum_by-cons, count_by-le-length}
 use Rattle.lvs_types.specs.declared.addr.Addr.{Addr}
 use Rattle.lvs_types.specs.declared.dest.Candidate.{Candidate}
-use Rattle.lvs_model.specs.MorePicks.{is_of, take_slot, takers, turns, total_weight, round_from, mh_table}
+use Rattle.lvs_model.specs.MorePicks.{is_of, take_slot, takers, slots_a_round, total_weight, round_from, mh_table}
 use Rattle.lvs_sched_more.specs.Evenness.{slots_of, IsEven}
 use Rattle.lvs_sched_more.proofs.Rounds.{turns_some}
 use Rattle.lvs_sched_more.proofs.Counts.{IsFilledBy, filled_by, all_taken}
@@ -24,31 +24,31 @@ same m n is = grind (arith, nat_tests)
 pub times_early : (total k q : ℕ) (servers : List Candidate) → q < k → times q (round_from total k servers) ≡ 0
 times_early total k q [] early = refl
 times_early total k q (server ∷ servers) early =
-    let block = times_block q (turns total server) k (round_from total (k + 1) servers) in
+    let block = times_block q (slots_a_round total server) k (round_from total (k + 1) servers) in
     let other = apart k q (omega arith) in
     let here = rw other at block in
     let later = times_early total (k + 1) q servers (omega arith) in
     omega arith
 
 -- in a round a server's place stands as often as it has turns
-pub times_in_round : (total k m q : ℕ) (servers : List Candidate) (server : Candidate) → slice_get servers m ≡ Some server → q ≡ k + m → times q (round_from total k servers) ≡ turns total server
+pub times_in_round : (total k m q : ℕ) (servers : List Candidate) (server : Candidate) → slice_get servers m ≡ Some server → q ≡ k + m → times q (round_from total k servers) ≡ slots_a_round total server
 times_in_round total k m q [] server there is = cc
 times_in_round total k zero q (first ∷ servers) server there is =
-    let block = times_block q (turns total first) k (round_from total (k + 1) servers) in
+    let block = times_block q (slots_a_round total first) k (round_from total (k + 1) servers) in
     let own = same k q (omega arith) in
     let here = rw own at block in
     let later = times_early total (k + 1) q servers (omega arith) in
     let both : first ≡ server = cc in
     rw (← both) (omega arith)
 times_in_round total k (suc m) q (first ∷ servers) server there is =
-    let block = times_block q (turns total first) k (round_from total (k + 1) servers) in
+    let block = times_block q (slots_a_round total first) k (round_from total (k + 1) servers) in
     let other = apart k q (omega arith) in
     let here = rw other at block in
     let later = times_in_round total (k + 1) m q servers server there (omega arith) in
     omega arith
 
 -- two servers with equal turns come in order in a round
-pub round_in_turn : (total k m n i j : ℕ) (servers : List Candidate) (first second : Candidate) → slice_get servers m ≡ Some first → slice_get servers n ≡ Some second → m < n → i ≡ k + m → j ≡ k + n → turns total first ≡ turns total second → InTurn i j (round_from total k servers)
+pub round_in_turn : (total k m n i j : ℕ) (servers : List Candidate) (first second : Candidate) → slice_get servers m ≡ Some first → slice_get servers n ≡ Some second → m < n → i ≡ k + m → j ≡ k + n → slots_a_round total first ≡ slots_a_round total second → InTurn i j (round_from total k servers)
 round_in_turn total k m n i j [] first second there then order is_i is_j equal = tt
 round_in_turn total k m zero i j (server ∷ servers) first second there then order is_i is_j equal = absurd (omega arith)
 round_in_turn total k zero (suc n) i j (server ∷ servers) first second there then order is_i is_j equal =
@@ -57,14 +57,14 @@ round_in_turn total k zero (suc n) i j (server ∷ servers) first second there t
     let all = times_in_round total (k + 1) n j servers second then (omega arith) in
     let own = same k i (omega arith) in
     let both : server ≡ first = cc in
-    let as_many : turns total server ≡ turns total second = rw both equal in
-    in_turn_block i j (turns total server) k rest (in_turn_without i j rest none) (rw own (omega arith))
+    let as_many : slots_a_round total server ≡ slots_a_round total second = rw both equal in
+    in_turn_block i j (slots_a_round total server) k rest (in_turn_without i j rest none) (rw own (omega arith))
 round_in_turn total k (suc m) (suc n) i j (server ∷ servers) first second there then order is_i is_j equal =
     let rest = round_from total (k + 1) servers in
     let later = round_in_turn total (k + 1) m n i j servers first second there then (omega arith) (omega arith) (omega arith) equal in
     let other = apart k i (omega arith) in
     let now = in_turn_now i j rest later in
-    in_turn_block i j (turns total server) k rest later (rw other (omega arith))
+    in_turn_block i j (slots_a_round total server) k rest later (rw other (omega arith))
 
 pub number_at_first : (n : ℕ) → length {A = Option ℕ} (replicate n None) ≡ n
 number_at_first n = length-replicate {A = Option ℕ} n None
@@ -105,15 +105,15 @@ pub table_even : (servers : List Candidate) (addrs : List Addr) → IsEven serve
 unfolding mh_table
 table_even servers addrs i j first second order there then some some_too equal =
     let total = total_weight servers in
-    even_at addrs (replicate 256 None) 256 (turns total first) i j (round_from total 0 servers) (number_at_first 256) (free_at_first 256) (nobody_at_first 256) (round_some total servers i first there some) (round_in_turn total 0 i j i j servers first second there then order (omega arith) (omega arith) equal) (times_in_round total 0 i i servers first there (omega arith)) (times_in_round total 0 j j servers second then (omega arith) ∙ sym equal)
+    even_at addrs (replicate 256 None) 256 (slots_a_round total first) i j (round_from total 0 servers) (number_at_first 256) (free_at_first 256) (nobody_at_first 256) (round_some total servers i first there some) (round_in_turn total 0 i j i j servers first second there then order (omega arith) (omega arith) equal) (times_in_round total 0 i i servers first there (omega arith)) (times_in_round total 0 j j servers second then (omega arith) ∙ sym equal)
 
 -- with a weight somebody takes a turn
 pub round_of_weight : (total k : ℕ) (servers : List Candidate) → 0 < total_weight servers → 0 < length (round_from total k servers)
 round_of_weight total k [] some = absurd (omega arith)
 round_of_weight total k (server ∷ servers) some =
     let whole = sum_by-cons (λ (server : Candidate). server.weight) server servers in
-    let joined = length-append (replicate (turns total server) k) (round_from total (k + 1) servers) in
-    let block = length-replicate (turns total server) k in
+    let joined = length-append (replicate (slots_a_round total server) k) (round_from total (k + 1) servers) in
+    let block = length-replicate (slots_a_round total server) k in
     ⊎_elim
     (λ here. let turn = turns_some total server here in omega arith)
     (λ none. let later = round_of_weight total (k + 1) servers (omega arith) in omega arith)

@@ -1,10 +1,10 @@
 //! The filling of a table of mh, in rounds.
 ghost use Rattle.std.specs.Prelude.{◌≡◌, ℕ, ◌+◌, ◌-◌, ◌<◌, ◌≤◌, List, [], ◌++◌, length, fold, replicate, sum_by, count_by, slice_index_or};
-ghost use Rattle.lvs_model.specs.MorePicks.{is_of, take_slot, takers, round_from, total_weight, turns};
+ghost use Rattle.lvs_model.specs.MorePicks.{is_of, take_slot, takers, round_from, total_weight, slots_a_round};
 ghost use Rattle.lvs_sched_more.specs.Filling.{IsFilling};
 
 use crate::slots::{SLOTS, first_free, preferred, taken_by};
-use crate::turns::turns;
+use crate::weights::slots_a_round;
 use lvs_types::{Addr, Candidate};
 
 /// A table that is being filled.
@@ -34,15 +34,15 @@ impl Filling {
     }
 
     /// The server at the place takes its slots of a round, or as many as are free.
-    fn turn(&mut self, addrs: &[Addr], place: usize, turns: u128)
+    fn turn(&mut self, addrs: &[Addr], place: usize, slots_a_round: u128)
         requires filling { IsFilling self.old.free self.old.slots }
         requires place { place < length addrs.now }
-        ensures slots { (rest round : List ℕ) → fold (take_slot addrs.now) self.new.slots (takers self.new.free rest round) ≡ fold (take_slot addrs.now) self.old.slots (takers self.old.free (replicate turns place ++ rest) round) }
-        ensures free { self.new.free ≡ self.old.free - turns }
+        ensures slots { (rest round : List ℕ) → fold (take_slot addrs.now) self.new.slots (takers self.new.free rest round) ≡ fold (take_slot addrs.now) self.old.slots (takers self.old.free (replicate slots_a_round place ++ rest) round) }
+        ensures free { self.new.free ≡ self.old.free - slots_a_round }
         ensures filling { IsFilling self.new.free self.new.slots }
     {
         let mut taken = taken_by(&self.slots, place);
-        let mut left = turns;
+        let mut left = slots_a_round;
         while left > 0 && self.free > 0 {
             self.take(addrs, place, taken);
             taken += 1;
@@ -56,14 +56,14 @@ impl Filling {
         requires addrs { length addrs.now ≡ length servers.now }
         requires total { total ≡ total_weight servers.now }
         ensures slots { (round : List ℕ) → fold (take_slot addrs.now) self.new.slots (takers self.new.free [] round) ≡ fold (take_slot addrs.now) self.old.slots (takers self.old.free (round_from total 0 servers.now) round) }
-        ensures free { self.new.free ≡ self.old.free - sum_by (turns total) servers.now }
+        ensures free { self.new.free ≡ self.old.free - sum_by (slots_a_round total) servers.now }
         ensures filling { IsFilling self.new.free self.new.slots }
     {
         for (place, server) in servers.iter().enumerate() {
             if self.free == 0 {
                 return;
             }
-            self.turn(addrs, place, turns(server, total));
+            self.turn(addrs, place, slots_a_round(server, total));
         }
     }
 

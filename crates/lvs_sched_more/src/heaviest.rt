@@ -1,6 +1,6 @@
 //! The picks fo and ovf: the heaviest of some servers.
 ghost use Rattle.std.specs.Prelude.{◌≡◌, ◌<◌, Bool, length, filter, IfSome, position, ◌&&◌, ◌==◌};
-ghost use Rattle.lvs_model.specs.MorePicks.{greatest_weight, is_eligible, has_room, heaviest, pick_fo, pick_ovf};
+ghost use Rattle.lvs_model.specs.MorePicks.{greatest_weight, is_eligible_candidate, has_room, heaviest, pick_fo, pick_ovf};
 ghost use Rattle.lvs_sched_more.specs.Takes.{takes};
 
 use lvs_types::Candidate;

@@ -7,7 +7,7 @@ mod maglev;
 mod slots;
 #[cfg(test)]
 mod tests;
-mod turns;
+mod weights;
 
 pub use heaviest::{pick_fo, pick_ovf};
 pub use maglev::{MhTable, pick_mh};

@@ -8,7 +8,7 @@ ghost use Rattle.std.specs.List.{list_all};
 
 use crate::filling::Filling;
 use crate::slots::{SLOTS, slot};
-use crate::turns::total_weight;
+use crate::weights::total_weight;
 use lvs_types::{Addr, Candidate};
 use std::marker::Model;
 

@@ -9,7 +9,7 @@ use Rattle.std.proofs.Math.Seq.{drop-cons}
 use Rattle.std.proofs.lemmas.Bool.{cases_lt}
 use Rattle.std.proofs.lemmas.Nat.Gcd.{dvd_refl, dvd-zero, dvd_trans, dvd_antisymm, le_of_dvd, dvd_of_mod-eq-zero, mod-eq-zero_of_dvd}
 use Rattle.lvs_types.specs.declared.dest.Candidate.{Candidate}
-use Rattle.lvs_model.specs.RoundRobin.{eligible_weights, greatest, divides_all, greatest_divisor, common_divisor}
+use Rattle.lvs_model.specs.RoundRobin.{eligible_weights, greatest, divides_all, greatest_divisor, greatest_common_divisor}
 
 -- the number divides each one of the list
 abbrev pub AllDivided : ℕ → List ℕ → Type 0
@@ -100,7 +100,7 @@ common_at g ns (suc n) is covers =
     greatest_divisor_is ns g (divides g ns each) (λ d is. le_of_dvd some (covers.down d (divided d ns is)).0) some (suc n) (le_of_dvd (omega arith) there)
 
 -- the greatest common divisor is what all common divisors divide
-pub common_is : (g : ℕ) (ns : List ℕ) → Covers g [] ns → g ≡ common_divisor ns
+pub common_is : (g : ℕ) (ns : List ℕ) → Covers g [] ns → g ≡ greatest_common_divisor ns
 common_is g ns covers = sym (common_at g ns (greatest ns) refl covers)
 
 pub weights_first : (b : Bool) (c : Candidate) (cs : List Candidate) → c.eligible ≡ b → eligible_weights (c ∷ cs) ≡ cond b (c.weight ∷ eligible_weights cs) (eligible_weights cs)
@@ -129,5 +129,5 @@ pub covers_met : (g h : ℕ) (cs : List Candidate) (i : ℕ) (d : Candidate) (al
 covers_met g h cs i d all within taken passed covers = met (get_or cs i d).eligible g h cs i d all within refl taken passed covers
 
 -- all have been met
-pub covers_all : (g : ℕ) (cs : List Candidate) (i : ℕ) → length cs ≤ i → Covers g (eligible_weights (drop i cs)) (eligible_weights cs) → g ≡ common_divisor (eligible_weights cs)
+pub covers_all : (g : ℕ) (cs : List Candidate) (i : ℕ) → length cs ≤ i → Covers g (eligible_weights (drop i cs)) (eligible_weights cs) → g ≡ greatest_common_divisor (eligible_weights cs)
 covers_all g cs i past covers = common_is g (eligible_weights cs) (subst (λ rest. Covers g (eligible_weights rest) (eligible_weights cs)) (drop_of_length-le cs past) covers)

@@ -1,13 +1,13 @@
 //! The greatest common divisor of the weights of the eligible candidates.
 ghost use Rattle.std.specs.Prelude.{◌≡◌, true, false};
 ghost use Rattle.std.specs.Int.{IsGcd};
-ghost use Rattle.lvs_model.specs.RoundRobin.{eligible_weights, common_divisor};
+ghost use Rattle.lvs_model.specs.RoundRobin.{eligible_weights, greatest_common_divisor};
 
 use lvs_types::Candidate;
 
 /// The greatest common divisor of the weights of the eligible ones, and 0 where there is none.
 pub(crate) fn weight_divisor(servers: &[Candidate]) -> u32
-    ensures { result ≡ common_divisor (eligible_weights servers.now) }
+    ensures { result ≡ greatest_common_divisor (eligible_weights servers.now) }
 {
     let mut divisor = 0;
     for server in servers {

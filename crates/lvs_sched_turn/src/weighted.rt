@@ -2,7 +2,7 @@
 ghost use Rattle.std.specs.Prelude.{◌≡◌, ◌<◌, ◌≤◌, ◌&&◌, nat_le, false, IfSome, IfNone, drop, length, slice_get};
 ghost use Rattle.std.specs.List.{find, list_any};
 ghost use Rattle.std.specs.Option.{option_map};
-ghost use Rattle.lvs_model.specs.RoundRobin.{pick_wrr, IsEligibleAt, IsNoneEligible, placed, offer, offer_turn, next_number, eligible_weights, greatest};
+ghost use Rattle.lvs_model.specs.RoundRobin.{pick_wrr, IsEligibleAt, IsNoneEligible, placed, offer, offer_turn, next_current_weight, eligible_weights, greatest};
 ghost use Rattle.lvs_sched_turn.specs.Places.{IsFound};
 
 use crate::divisor::weight_divisor;
@@ -12,7 +12,7 @@ use lvs_types::{Candidate, Cursor};
 
 /// The place of the server whose turn it is, from 0, and the cursor that is left; None where no server is eligible.
 ///
-/// The servers after the cursor's are looked at with its present weight, and then all with the next one, so at most
+/// The servers after the cursor's are looked at with the present current weight, and then all with the next one, so at most
 /// twice the servers: the first eligible one of at least that weight is picked, and the weight is kept (ipvsadm(8), wrr).
 pub fn pick_wrr(servers: &[Candidate], cursor: &Cursor) -> Option<(usize, Cursor)>
     ensures pick { result ≡ pick_wrr servers.now cursor.now }
@@ -22,7 +22,7 @@ pub fn pick_wrr(servers: &[Candidate], cursor: &Cursor) -> Option<(usize, Cursor
     let start = place_after(servers, cursor);
     match next_place(servers, start, cursor.cw) {
         Some(place) => Some(turn(servers, place, cursor.cw)),
-        None => pick_in_next_round(servers, next_weight(servers, cursor.cw)),
+        None => pick_in_next_round(servers, next_current_weight(servers, cursor.cw)),
     }
 }
 
@@ -53,15 +53,15 @@ fn next_place(servers: &[Candidate], start: usize, weight: u32) -> Option<usize>
 fn turn(servers: &[Candidate], place: usize, weight: u32) -> (usize, Cursor)
     requires { place < length servers.now }
     ensures place { result.0 ≡ place }
-    ensures pick { Some result ≡ option_map (λ c. offer_turn (record { place = place; server = c; number = weight })) (slice_get servers.now place) }
+    ensures pick { Some result ≡ option_map (λ c. offer_turn (record { place = place; server = c; current_weight = weight })) (slice_get servers.now place) }
 {
     let last = Some(servers[place].id);
     (place, Cursor { last, cw: weight })
 }
 
-/// The weight of the next round: a step lower, or the greatest one again.
-fn next_weight(servers: &[Candidate], weight: u32) -> u32
-    ensures number { result ≡ next_number (eligible_weights servers.now) weight }
+/// The current weight of the next round: a step lower, or the greatest one again.
+fn next_current_weight(servers: &[Candidate], weight: u32) -> u32
+    ensures number { result ≡ next_current_weight (eligible_weights servers.now) weight }
     ensures reached { result ≤ greatest (eligible_weights servers.now) }
 {
     let greatest = greatest_weight(servers);

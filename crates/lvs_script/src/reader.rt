@@ -1,7 +1,7 @@
 //! Reading the lines of a script one after the other.
 ghost use Rattle.std.specs.Prelude.{◌≡◌, length, [], None, OnOk, IfOk, Ok, Err};
 ghost use Rattle.lvs_types.specs.declared.script.ScriptCause.{ScriptCause};
-ghost use Rattle.lvs_model.specs.Scripts.{empty_script, rounds_read, checked_place, with_line, take_local, checked_round, take_at, take_round_line, take_kind, take_words, take_line, script_read};
+ghost use Rattle.lvs_model.specs.Scripts.{empty_script, rounds_read, checked_place, with_line, take_local, checked_round, take_at, take_round_line, take_kind, take_line_words, take_line, script_read};
 ghost use Rattle.lvs_lines.specs.Texts.{texts};
 ghost use Rattle.lvs_script.specs.Texts.{read_or_refused};
 
@@ -177,9 +177,9 @@ impl ScriptReader {
     }
 
     /// The words of a line that isn't skipped.
-    fn take_words(&mut self, words: &[&[u8]]) -> Result<(), Stop>
-        ensures ok { OnOk result (take_words (texts words.now) self.old ≡ Ok self.new) }
-        ensures refused { (why : ScriptCause) → result ≡ Err (Stop.Refused why) → take_words (texts words.now) self.old ≡ Err why }
+    fn take_line_words(&mut self, words: &[&[u8]]) -> Result<(), Stop>
+        ensures ok { OnOk result (take_line_words (texts words.now) self.old ≡ Ok self.new) }
+        ensures refused { (why : ScriptCause) → result ≡ Err (Stop.Refused why) → take_line_words (texts words.now) self.old ≡ Err why }
     {
         match words {
             [] => Ok(()),

@@ -3,7 +3,7 @@ ghost use Rattle.std.specs.Prelude.{◌≡◌, IfOk, IfErr, Ok, Err};
 ghost use Rattle.lvs_types.specs.declared.script.ScriptCause.{ScriptCause};
 ghost use Rattle.lvs_types.specs.declared.script.ScriptCause.TheVariants as cause;
 ghost use Rattle.lvs_model.specs.Decimals.{addr_of};
-ghost use Rattle.lvs_model.specs.Scripts.{needed, bytes_of, no_words, one_word, two_words, number_given};
+ghost use Rattle.lvs_model.specs.Scripts.{or_cause, bytes_of, no_words, one_word, two_words, number_given};
 ghost use Rattle.lvs_lines.specs.Texts.{texts};
 
 use crate::stop::Stop;
@@ -53,7 +53,7 @@ pub(crate) fn number(word: &[u8]) -> Result<u32, ScriptCause>
 
 /// ADDR.
 pub(crate) fn addr(word: &[u8]) -> Result<Addr, ScriptCause>
-    ensures { result ≡ needed cause.BadAddress (addr_of word.now) }
+    ensures { result ≡ or_cause cause.BadAddress (addr_of word.now) }
 {
     read_addr(word).ok_or(ScriptCause::BadAddress)
 }

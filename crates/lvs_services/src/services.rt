@@ -5,7 +5,7 @@ ghost use Rattle.std.specs.List.{list_any};
 ghost use Rattle.lvs_types.specs.declared.service.Service.{Service};
 ghost use Rattle.lvs_model.specs.Lists.{update_first, without};
 ghost use Rattle.lvs_model.specs.Lookups.{has_service_key, service_at, marked_service, find_service};
-ghost use Rattle.lvs_model.specs.Edits.{fresh};
+ghost use Rattle.lvs_model.specs.Edits.{with_fresh_cursor};
 ghost use Rattle.lvs_services.specs.Services.{is_known, AreApart, edit_answer};
 
 use crate::keys;
@@ -50,7 +50,7 @@ impl Services {
     pub fn add(&mut self, service: Service) -> Result<(), ServiceRefused>
         ensures exists { (result ≡ Err ServiceRefused.Exists) ↔ (is_known service.key self.old ≡ true) }
         ensures no_other { result ≢ Err ServiceRefused.NoService }
-        ensures ok { OnOk result (self.new ≡ self.old ++ fresh service ∷ []) }
+        ensures ok { OnOk result (self.new ≡ self.old ++ with_fresh_cursor service ∷ []) }
         ensures err { OnErr result (self.new ≡ self.old) }
     {
         if keys::is_there(&self.services, &service.key) {
@@ -70,7 +70,7 @@ impl Services {
     /// anew. It is refused with NoService where no service of that key is there.
     pub fn edit(&mut self, service: Service) -> Result<(), ServiceRefused>
         ensures answer { result ≡ edit_answer (is_known service.key self.old) }
-        ensures services { self.new ≡ update_first (has_service_key service.key) (λ _. fresh service) self.old }
+        ensures services { self.new ≡ update_first (has_service_key service.key) (λ _. with_fresh_cursor service) self.old }
     {
         if !keys::is_there(&self.services, &service.key) {
             return Err(ServiceRefused::NoService);

@@ -19,7 +19,7 @@ use Rattle.lvs_model.specs.Packets.{Packet, key_of}
 use Rattle.lvs_model.specs.SyncRules.{due_for_sync, of_entry}
 use Rattle.lvs_model.specs.Binding.{put_entry, serves_at, count_bound}
 use Rattle.lvs_model.specs.Forwarding.{state_after, direction_in, after_packet, records_due, records_of_template, forward_known}
-use Rattle.lvs_model.specs.Scheduling.{port_at, state_before, new_entry, enter, is_one_packet, connect_to}
+use Rattle.lvs_model.specs.Scheduling.{connection_port, state_before, new_entry, enter, is_one_packet, connect_to}
 use Rattle.lvs_model.specs.WellFormed.{IsOlder}
 use Rattle.lvs_well_formed.proofs.Keys.{addr_same, nat_same}
 use Rattle.lvs_well_formed.proofs.Parts.{IsSound, Parts, After, stays, then_after}
@@ -81,9 +81,9 @@ serves_step true port dport is = or_all (port == dport) (port == 0) (dport == dp
 serves_step false port dport is = or_left (port == port) ((port == 0) && (port == dport)) (nat_same port)
 
 -- a server serves where it sends its new connections
-pub serves_new : (d : Dest) (head : Head) → serves_at d.spec.addr (port_at d head) head.dport d ≡ true
+pub serves_new : (d : Dest) (head : Head) → serves_at d.spec.addr (connection_port d head) head.dport d ≡ true
 serves_new d head =
-    and_from (addr_eq d.spec.addr d.spec.addr) ((d.spec.port == port_at d head) || ((d.spec.port == 0) && (port_at d head == head.dport))) (addr_same d.spec.addr)
+    and_from (addr_eq d.spec.addr d.spec.addr) ((d.spec.port == connection_port d head) || ((d.spec.port == 0) && (connection_port d head == head.dport))) (addr_same d.spec.addr)
     (serves_step (d.spec.port == 0) d.spec.port head.dport refl)
 
 new_state : (proto : Proto) (direction : Direction) (head : Head) → is_none (state_after (state_before proto) direction head) ≡ proto_eq proto Udp

@@ -25,7 +25,7 @@ use Rattle.lvs_model.specs.Packets.{Packet, key_of, may_connect}
 use Rattle.lvs_model.specs.Binding.{try_binding, put_template, template_tried}
 use Rattle.lvs_model.specs.Persistence.{template_key, usable_server}
 use Rattle.lvs_model.specs.Forwarding.{forwarded, forward_known}
-use Rattle.lvs_model.specs.Scheduling.{connect_to, enter, new_entry, port_at, is_one_packet, with_cursor, new_template, replace_template, take_pick, pick_at, picked, schedule, renewed, use_template, persist_by, serve_packet, admit, connect}
+use Rattle.lvs_model.specs.Scheduling.{connect_to, enter, new_entry, connection_port, is_one_packet, with_cursor, new_template, replace_template, take_pick, pick_at, picked, schedule, renewed, use_template, persist_by, serve_packet, admit, connect}
 use Rattle.lvs_model.specs.declared.incoming.Standing.{Standing}
 use Rattle.lvs_model.specs.declared.incoming.Standing.TheVariants.{Reused, ServerGone, InUse}
 use Rattle.lvs_model.specs.Incoming.{end_entry, gone, continue, arrive, take_back, incoming_packet, incoming_of, incoming_read, incoming, server_named, standing_of}
@@ -68,8 +68,8 @@ connect_to_served : (s : State) (p : Packet) (service : Service) (d : Dest) (tem
 connect_to_served s p service d template =
     let e : Entry = new_entry s p service d template in
     let entered : Reply × State = enter s p e d in
-    connect_by (is_one_packet service p.proto) s entered.1 (forwarded s p d.spec.method d.spec.addr (port_at d p.head)) entered.0
-    (forwarded_served s p d.spec.method d.spec.addr (port_at d p.head)) (forwarded_served s p e.method e.daddr e.dport)
+    connect_by (is_one_packet service p.proto) s entered.1 (forwarded s p d.spec.method d.spec.addr (connection_port d p.head)) entered.0
+    (forwarded_served s p d.spec.method d.spec.addr (connection_port d p.head)) (forwarded_served s p e.method e.daddr e.dport)
 
 take_pick_served : (s : State) (p : Packet) (service : Service) (d : Dest) (o : Option ℕ) → is_served (take_pick s p service d o).0 ≡ true
 take_pick_served s p service d None = connect_to_served s p service d None

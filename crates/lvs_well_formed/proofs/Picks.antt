@@ -9,7 +9,7 @@ use Rattle.lvs_types.specs.declared.service.Scheduler.{Scheduler}
 use Rattle.lvs_types.specs.declared.service.Scheduler.TheVariants.{Rr, Wrr, Lc, Wlc, Sed, Nq, Sh, Dh, Fo, Ovf, Mh}
 use Rattle.lvs_types.specs.declared.service.Cursor.{Cursor}
 use Rattle.lvs_types.specs.declared.dest.Candidate.{Candidate}
-use Rattle.lvs_model.specs.RoundRobin.{pick_rr, pick_wrr, turn_of, offer_turn, is_taken, is_last, offer, Offer, placed, after_last, through_last, offers, next_number, eligible_weights}
+use Rattle.lvs_model.specs.RoundRobin.{pick_rr, pick_wrr, turn_of, offer_turn, is_taken, is_last, offer, Offer, placed, after_last, through_last, offers, next_current_weight, eligible_weights}
 use Rattle.lvs_model.specs.LeastLoad.{pick_lc, pick_wlc, pick_sed, pick_nq}
 use Rattle.lvs_model.specs.AddressHash.{pick_sh, pick_dh}
 use Rattle.lvs_model.specs.MorePicks.{pick_fo, pick_ovf, pick_mh}
@@ -52,7 +52,7 @@ wrr_last P cs cursor choice each is =
     let Q : (ℕ × Candidate) → Type 0 = λ p. P (Some p.1.id) in
     let R : Offer → Type 0 = λ o. P (Some o.server.id) in
     let all : AllByRecursion Q (placed cs) = all_enumerated (λ (c : Candidate). P (Some c.id)) 0 cs each in
-    let number = next_number (eligible_weights cs) cursor.cw in
+    let number = next_current_weight (eligible_weights cs) cursor.cw in
     let offered : AllByRecursion R (offers cs cursor) =
     all_append R (map (offer cursor.cw) (after_last cs cursor)) (map (offer number) (placed cs))
     (all_map R (offer cursor.cw) (after_last cs cursor) (all_drop Q (position_or_len (is_last cursor) (placed cs) + 1) (placed cs) all))

@@ -9,7 +9,7 @@ use Rattle.lvs_model.specs.State.{State}
 use Rattle.lvs_model.specs.Same.{service_key_eq}
 use Rattle.lvs_model.specs.Lists.{update_first, without}
 use Rattle.lvs_model.specs.Lookups.{has_service_key, is_server_of}
-use Rattle.lvs_model.specs.Edits.{fresh, is_service, add_service_by, edit_service_by, remove_service_by, clear, remove_dests}
+use Rattle.lvs_model.specs.Edits.{with_fresh_cursor, is_service, add_service_by, edit_service_by, remove_service_by, clear, remove_dests}
 use Rattle.lvs_model.specs.WellFormed.{HasService, HasCursor}
 use Rattle.lvs_well_formed.proofs.Lists.{all_weaker, all_passing, all_push, all_update, any_none}
 use Rattle.lvs_well_formed.proofs.Distinct.{distinct_none, distinct_push, distinct_filter, keys_update}
@@ -30,9 +30,9 @@ add_service_after s service false is p =
     record {
       parts = record {
         services = record {
-          keys = distinct_push service_key_eq (λ (x : Service). x.key) s.services (fresh service) (any_none (has_service_key service.key) s.services is) p.services.keys;
-          live = all_weaker (HasService s.services) (HasService (s.services ++ fresh service ∷ [])) s.dests (λ d has live. any_push (has_service_key d.service) s.services (fresh service) (has live)) p.services.live;
-          cursors = all_push (HasCursor s.dests) s.services (fresh service) p.services.cursors tt;
+          keys = distinct_push service_key_eq (λ (x : Service). x.key) s.services (with_fresh_cursor service) (any_none (has_service_key service.key) s.services is) p.services.keys;
+          live = all_weaker (HasService s.services) (HasService (s.services ++ with_fresh_cursor service ∷ [])) s.dests (λ d has live. any_push (has_service_key d.service) s.services (with_fresh_cursor service) (has live)) p.services.live;
+          cursors = all_push (HasCursor s.dests) s.services (with_fresh_cursor service) p.services.cursors tt;
         };
         dests = p.dests;
         entries = p.entries;
@@ -45,9 +45,9 @@ add_service_after s service false is p =
 pub edit_service_after : (s : State) (service : Service) (b : Bool) → Parts s → After s (edit_service_by s service b).1
 edit_service_after s service false p = stays s p
 edit_service_after s service true p =
-    with_services_alike s (update_first (has_service_key service.key) (λ _. fresh service) s.services)
-    (keys_update (λ (x : Service). x.key) (has_service_key service.key) (λ _. fresh service) s.services (λ x here. sym (service_key_true x.key service.key here)))
-    (all_update (HasCursor s.dests) (has_service_key service.key) (λ _. fresh service) s.services (λ x here old. tt) p.services.cursors) p
+    with_services_alike s (update_first (has_service_key service.key) (λ _. with_fresh_cursor service) s.services)
+    (keys_update (λ (x : Service). x.key) (has_service_key service.key) (λ _. with_fresh_cursor service) s.services (λ x here. sym (service_key_true x.key service.key here)))
+    (all_update (HasCursor s.dests) (has_service_key service.key) (λ _. with_fresh_cursor service) s.services (λ x here old. tt) p.services.cursors) p
 
 -- REMOVAL
 

@@ -8,7 +8,7 @@ ghost use Rattle.lvs_types.specs.declared.bucket.Found.TheVariants as found;
 ghost use Rattle.lvs_types.specs.declared.bucket.Change.TheVariants as changes;
 ghost use Rattle.lvs_model.specs.Lookups.{entry_at};
 ghost use Rattle.lvs_model.specs.MessageExamples.{connection, template_record};
-ghost use Rattle.lvs_model.specs.ExampleItems.{web, add_service, add_web_server, syn, ack, tcp_packet};
+ghost use Rattle.lvs_model.specs.ExampleItems.{web, add_example_service, add_web_server, syn, ack, web_packet};
 ghost use Rattle.lvs_model.specs.BucketExamples.{unused, two_connected, left_in_16, web_key, web_entry, new_entry, masqueraded, answer, fragment, icmp_packet};
 ghost use Rattle.lvs_model.specs.Buckets.{home, entries_of, look_in, look_up, changed_by, entry_of_id, is_found_with, Carries};
 
@@ -60,9 +60,9 @@ pub fn found_by_reply()
 
 /// A sweep finds what is due exactly now, in its bucket.
 pub fn found_due()
-    ensures due { look_up (left_in_16 (add_service web None ∷ add_web_server 1 ∷ syn 40000 ∷ syn 40001 ∷ item.Tick 60 ∷ [])) (item.Sweep 2) ≡ found.Due (new_entry 1 40000 ∷ []) }
-    ensures before { look_up (left_in_16 (add_service web None ∷ add_web_server 1 ∷ syn 40000 ∷ item.Tick 59 ∷ [])) (item.Sweep 2) ≡ found.Due [] }
-    ensures other_bucket { look_up (left_in_16 (add_service web None ∷ add_web_server 1 ∷ syn 40000 ∷ item.Tick 60 ∷ [])) (item.Sweep 3) ≡ found.Due [] }
+    ensures due { look_up (left_in_16 (add_example_service web None ∷ add_web_server 1 ∷ syn 40000 ∷ syn 40001 ∷ item.Tick 60 ∷ [])) (item.Sweep 2) ≡ found.Due (new_entry 1 40000 ∷ []) }
+    ensures before { look_up (left_in_16 (add_example_service web None ∷ add_web_server 1 ∷ syn 40000 ∷ item.Tick 59 ∷ [])) (item.Sweep 2) ≡ found.Due [] }
+    ensures other_bucket { look_up (left_in_16 (add_example_service web None ∷ add_web_server 1 ∷ syn 40000 ∷ item.Tick 60 ∷ [])) (item.Sweep 3) ≡ found.Due [] }
     ensures no_bucket { look_up two_connected (item.Sweep 16) ≡ found.Nothing }
 {}
 
@@ -95,12 +95,12 @@ pub fn an_ack_updates()
 
 /// A SYN takes up the place of a connection in TIME_WAIT.
 pub fn a_reuse_swaps()
-    ensures { Carries (left_in_16 (add_service web None ∷ add_web_server 1 ∷ syn 40000 ∷ item.Incoming 0 (tcp_packet 40000 1) ∷ [])) (syn 40000) (changes.Swap 1 (new_entry 2 40000)) }
+    ensures { Carries (left_in_16 (add_example_service web None ∷ add_web_server 1 ∷ syn 40000 ∷ item.Incoming 0 (web_packet 40000 1) ∷ [])) (syn 40000) (changes.Swap 1 (new_entry 2 40000)) }
 {}
 
 /// A sweep ends what is due exactly now.
 pub fn a_sweep_ends()
-    ensures { Carries (left_in_16 (add_service web None ∷ add_web_server 1 ∷ syn 40000 ∷ syn 40001 ∷ item.Tick 60 ∷ [])) (item.Sweep 2) (changes.EndDue 60) }
+    ensures { Carries (left_in_16 (add_example_service web None ∷ add_web_server 1 ∷ syn 40000 ∷ syn 40001 ∷ item.Tick 60 ∷ [])) (item.Sweep 2) (changes.EndDue 60) }
 {}
 
 /// An item without a bucket keeps all entries.

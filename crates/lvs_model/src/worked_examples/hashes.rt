@@ -1,7 +1,7 @@
 //! Worked examples: picks by hashed addresses, by weight and by room.
 ghost use Rattle.std.specs.Prelude.{◌≡◌, ◌∷◌, [], false, None, Some, map};
 ghost use Rattle.lvs_model.specs.AddressHash.{slot_of, owner_of, pick_sh, pick_dh};
-ghost use Rattle.lvs_model.specs.MorePicks.{pick_fo, pick_ovf, pick_mh, mh_table, turns, preferred};
+ghost use Rattle.lvs_model.specs.MorePicks.{pick_fo, pick_ovf, pick_mh, mh_table, slots_a_round, preferred};
 
 use lvs_types::{Addr, Candidate, DestId};
 
@@ -57,7 +57,7 @@ pub fn overflow()
 
 /// Maglev hashing of 192.168.0.1 and 192.168.0.2, weights 1: 32 turns each.
 pub fn maglev_turns()
-    ensures turns { turns 2 LIGHT ≡ 32 }
+    ensures turns { slots_a_round 2 LIGHT ≡ 32 }
     ensures first { map (preferred (record { number = 0xC0A8_0001 })) (0 ∷ 1 ∷ 2 ∷ []) ≡ 58 ∷ 61 ∷ 64 ∷ [] }
     ensures second { map (preferred (record { number = 0xC0A8_0002 })) (0 ∷ 1 ∷ 2 ∷ []) ≡ 216 ∷ 221 ∷ 226 ∷ [] }
 {}

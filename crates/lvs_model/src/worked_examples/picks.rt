@@ -2,32 +2,32 @@
 ghost use Rattle.std.specs.Prelude.{◌≡◌, [], ◌∷◌, Some, None};
 ghost use Rattle.lvs_model.specs.ExampleServers.{idle, loaded, closed, cursor_after};
 ghost use Rattle.lvs_model.specs.Edits.{fresh_cursor};
-ghost use Rattle.lvs_model.specs.RoundRobin.{pick_rr, pick_wrr, turns, next_number, common_divisor};
+ghost use Rattle.lvs_model.specs.RoundRobin.{pick_rr, pick_wrr, picks_in_turn, next_current_weight, greatest_common_divisor};
 ghost use Rattle.lvs_model.specs.LeastLoad.{pick_lc, pick_wlc, pick_sed, pick_nq, picks_in_row};
 
 /// Servers take turns, and the one that was picked last is looked at last.
 pub fn rr_takes_turns()
-    ensures begins { turns pick_rr (idle 1 1 ∷ idle 2 1 ∷ idle 3 1 ∷ []) fresh_cursor 5 ≡ 0 ∷ 1 ∷ 2 ∷ 0 ∷ 1 ∷ [] }
-    ensures ineligible { turns pick_rr (idle 1 1 ∷ closed 2 1 ∷ idle 3 1 ∷ []) fresh_cursor 4 ≡ 0 ∷ 2 ∷ 0 ∷ 2 ∷ [] }
+    ensures begins { picks_in_turn pick_rr (idle 1 1 ∷ idle 2 1 ∷ idle 3 1 ∷ []) fresh_cursor 5 ≡ 0 ∷ 1 ∷ 2 ∷ 0 ∷ 1 ∷ [] }
+    ensures ineligible { picks_in_turn pick_rr (idle 1 1 ∷ closed 2 1 ∷ idle 3 1 ∷ []) fresh_cursor 4 ≡ 0 ∷ 2 ∷ 0 ∷ 2 ∷ [] }
     ensures cursor { pick_rr (idle 1 1 ∷ idle 2 1 ∷ idle 3 1 ∷ []) (cursor_after 2 7) ≡ Some (2, cursor_after 3 7) }
-    ensures nobody { turns pick_rr (idle 1 1 ∷ idle 2 1 ∷ []) (cursor_after 9 0) 3 ≡ 0 ∷ 1 ∷ 0 ∷ [] }
+    ensures nobody { picks_in_turn pick_rr (idle 1 1 ∷ idle 2 1 ∷ []) (cursor_after 9 0) 3 ≡ 0 ∷ 1 ∷ 0 ∷ [] }
     ensures itself { pick_rr (closed 1 1 ∷ idle 2 1 ∷ []) (cursor_after 2 0) ≡ Some (1, cursor_after 2 0) }
     ensures none { pick_rr (closed 1 1 ∷ closed 2 1 ∷ []) fresh_cursor ≡ None }
 {}
 
 /// Three servers of weights 4, 3 and 2 get nine picks: A A B A B C A B C.
 pub fn wrr_of_4_3_2()
-    ensures { turns pick_wrr (idle 1 4 ∷ idle 2 3 ∷ idle 3 2 ∷ []) fresh_cursor 9 ≡ 0 ∷ 0 ∷ 1 ∷ 0 ∷ 1 ∷ 2 ∷ 0 ∷ 1 ∷ 2 ∷ [] }
+    ensures { picks_in_turn pick_wrr (idle 1 4 ∷ idle 2 3 ∷ idle 3 2 ∷ []) fresh_cursor 9 ≡ 0 ∷ 0 ∷ 1 ∷ 0 ∷ 1 ∷ 2 ∷ 0 ∷ 1 ∷ 2 ∷ [] }
 {}
 
 /// The greatest common divisor is the step, and ineligible servers don't count.
 pub fn wrr_steps()
-    ensures divisor { common_divisor (12 ∷ 18 ∷ 30 ∷ []) ≡ 6 }
-    ensures first { next_number (12 ∷ 18 ∷ 30 ∷ []) 0 ≡ 30 }
-    ensures next { next_number (12 ∷ 18 ∷ 30 ∷ []) 30 ≡ 24 }
-    ensures again { next_number (12 ∷ 18 ∷ 30 ∷ []) 6 ≡ 30 }
-    ensures above { next_number (12 ∷ 18 ∷ 30 ∷ []) 99 ≡ 30 }
-    ensures ineligible { turns pick_wrr (idle 1 4 ∷ closed 2 3 ∷ idle 3 2 ∷ []) fresh_cursor 6 ≡ 0 ∷ 0 ∷ 2 ∷ 0 ∷ 0 ∷ 2 ∷ [] }
+    ensures divisor { greatest_common_divisor (12 ∷ 18 ∷ 30 ∷ []) ≡ 6 }
+    ensures first { next_current_weight (12 ∷ 18 ∷ 30 ∷ []) 0 ≡ 30 }
+    ensures next { next_current_weight (12 ∷ 18 ∷ 30 ∷ []) 30 ≡ 24 }
+    ensures again { next_current_weight (12 ∷ 18 ∷ 30 ∷ []) 6 ≡ 30 }
+    ensures above { next_current_weight (12 ∷ 18 ∷ 30 ∷ []) 99 ≡ 30 }
+    ensures ineligible { picks_in_turn pick_wrr (idle 1 4 ∷ closed 2 3 ∷ idle 3 2 ∷ []) fresh_cursor 6 ≡ 0 ∷ 0 ∷ 2 ∷ 0 ∷ 0 ∷ 2 ∷ [] }
     ensures cursor { pick_wrr (idle 1 4 ∷ idle 2 3 ∷ idle 3 2 ∷ []) (cursor_after 1 3) ≡ Some (1, cursor_after 2 3) }
     ensures nobody { pick_wrr (idle 1 4 ∷ idle 2 3 ∷ idle 3 2 ∷ []) (cursor_after 9 4) ≡ Some (0, cursor_after 1 3) }
     ensures none { pick_wrr (closed 1 0 ∷ []) fresh_cursor ≡ None }

@@ -9,7 +9,7 @@ ghost use Rattle.lvs_types.specs.declared.script.ScriptLine.TheVariants as line;
 ghost use Rattle.lvs_types.specs.declared.script.WordsCause.TheVariants as words;
 ghost use Rattle.lvs_types.specs.declared.settings.Setting.TheVariants as setting;
 ghost use Rattle.lvs_types.specs.declared.status.Status.TheVariants as status;
-ghost use Rattle.lvs_model.specs.ExampleItems.{syn, tcp_packet};
+ghost use Rattle.lvs_model.specs.ExampleItems.{syn, web_packet};
 ghost use Rattle.lvs_model.specs.FaultLines.{fault_text};
 ghost use Rattle.lvs_model.specs.Plans.{plan, serial_items};
 ghost use Rattle.lvs_model.specs.ReportReading.{report_of};
@@ -26,8 +26,8 @@ pub fn a_script()
 
 /// Two packets of two workers among four, an edit, and a listing.
 pub fn a_plan()
-    ensures lists { plan (record { moment = 5; lines = line.Incoming 0 (tcp_packet 40000 2) ∷ line.Edit command.Clear ∷ line.Incoming 0 (tcp_packet 40001 2) ∷ line.Show shown.Conns ∷ [] }) 4 2 ≡ record { moment = 5; buckets = 2; lists = (item.Sweep 0 ∷ item.Sweep 1 ∷ item.Reap ∷ item.SendSync ∷ []) ∷ (item.Edit command.Clear ∷ []) ∷ [] ∷ [] ∷ (syn 40000 ∷ []) ∷ [] ∷ (syn 40001 ∷ []) ∷ []; shown = shown.Conns ∷ [] } }
-    ensures serial { serial_items (record { moment = 5; lines = line.Incoming 0 (tcp_packet 40000 2) ∷ line.Edit command.Clear ∷ line.Incoming 0 (tcp_packet 40001 2) ∷ line.Show shown.Conns ∷ [] }) ≡ record { actor = 0; number = 0; item = item.Sweep 0 } ∷ record { actor = 0; number = 1; item = item.Reap } ∷ record { actor = 3; number = 0; item = syn 40000 } ∷ record { actor = 1; number = 0; item = item.Edit command.Clear } ∷ record { actor = 3; number = 1; item = syn 40001 } ∷ record { actor = 0; number = 2; item = item.SendSync } ∷ [] }
+    ensures lists { plan (record { moment = 5; lines = line.Incoming 0 (web_packet 40000 2) ∷ line.Edit command.Clear ∷ line.Incoming 0 (web_packet 40001 2) ∷ line.Show shown.Conns ∷ [] }) 4 2 ≡ record { moment = 5; buckets = 2; lists = (item.Sweep 0 ∷ item.Sweep 1 ∷ item.Reap ∷ item.SendSync ∷ []) ∷ (item.Edit command.Clear ∷ []) ∷ [] ∷ [] ∷ (syn 40000 ∷ []) ∷ [] ∷ (syn 40001 ∷ []) ∷ []; shown = shown.Conns ∷ [] } }
+    ensures serial { serial_items (record { moment = 5; lines = line.Incoming 0 (web_packet 40000 2) ∷ line.Edit command.Clear ∷ line.Incoming 0 (web_packet 40001 2) ∷ line.Show shown.Conns ∷ [] }) ≡ record { actor = 0; number = 0; item = item.Sweep 0 } ∷ record { actor = 0; number = 1; item = item.Reap } ∷ record { actor = 3; number = 0; item = syn 40000 } ∷ record { actor = 1; number = 0; item = item.Edit command.Clear } ∷ record { actor = 3; number = 1; item = syn 40001 } ∷ record { actor = 0; number = 2; item = item.SendSync } ∷ [] }
 {}
 
 /// A report of one act and one listing; its faults are told by their lines.

@@ -2,7 +2,7 @@ use Rattle.std.proofs.Common.{List, ap, ◌∙◌}
 use Rattle.lvs_types.specs.declared.dest.Dest.{Dest}
 use Rattle.lvs_flat.specs.declared.too_long.Bound.{Bound}
 use Rattle.lvs_flat.specs.Tables.{state_of}
-use Rattle.lvs_flat.specs.Arrivals.{packet_of}
+use Rattle.lvs_flat.specs.Packets.{packet_of}
 use Rattle.lvs_flat.specs.TooLong.{exceeds_connection, exceeds_bound}
 use Rattle.lvs_flat.proofs.Leaving.{as_they_are}
 use Rattle.lvs_flat.proofs.too_long.exceeds_arriving.Goals as goal

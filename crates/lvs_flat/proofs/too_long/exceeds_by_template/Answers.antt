@@ -3,7 +3,7 @@ use Rattle.lvs_types.specs.declared.dest.Dest.{Dest}
 use Rattle.lvs_types.specs.declared.template.Template.{Template}
 use Rattle.lvs_model.specs.Persistence.{usable_server}
 use Rattle.lvs_flat.specs.Tables.{state_of}
-use Rattle.lvs_flat.specs.Arrivals.{packet_of}
+use Rattle.lvs_flat.specs.Packets.{packet_of}
 use Rattle.lvs_flat.specs.Views.{seen_in}
 use Rattle.lvs_flat.specs.TooLong.{exceeds_pick, exceeds_used}
 use Rattle.lvs_flat.proofs.TooLong.{template_told}

@@ -4,7 +4,7 @@ use Rattle.lvs_types.specs.declared.entry.Key.{Key}
 use Rattle.lvs_model.specs.Lookups.{entry_at}
 use Rattle.lvs_model.specs.Packets.{key_of}
 use Rattle.lvs_flat.specs.Tables.{state_of}
-use Rattle.lvs_flat.specs.Arrivals.{packet_of}
+use Rattle.lvs_flat.specs.Packets.{packet_of}
 use Rattle.lvs_flat.specs.TooLong.{exceeds_arrived}
 use Rattle.lvs_flat.proofs.TooLong.{arrived_told}
 use Rattle.lvs_flat.proofs.too_long.is_too_long.Goals as goal

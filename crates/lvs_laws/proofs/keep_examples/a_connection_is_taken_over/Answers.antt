@@ -1,5 +1,5 @@
 use Rattle.std.proofs.Common.{[], ◌∷◌, None, refl}
-use Rattle.lvs_model.specs.ExampleItems.{web, add_service, add_web_server, tunnel_source}
+use Rattle.lvs_model.specs.ExampleItems.{web, add_example_service, add_web_server, tunnel_source}
 use Rattle.lvs_model.specs.State.{initial}
 use Rattle.lvs_well_formed.proofs.Steps.{initial_well_formed, run_well_formed}
 use Rattle.lvs_laws.specs.KeepExamples.{start_backup}
@@ -7,7 +7,7 @@ use Rattle.lvs_laws.proofs.keep_examples.a_connection_is_taken_over.Goals as goa
 
 pub returns-clause-well_formed : goal.returns-clause-well_formed
 returns-clause-well_formed c =
-    run_well_formed (initial tunnel_source 1) (add_service web None ∷ add_web_server 1 ∷ add_web_server 2 ∷ start_backup ∷ []) (initial_well_formed tunnel_source 1)
+    run_well_formed (initial tunnel_source 1) (add_example_service web None ∷ add_web_server 1 ∷ add_web_server 2 ∷ start_backup ∷ []) (initial_well_formed tunnel_source 1)
 
 pub returns-clause-accepted : goal.returns-clause-accepted
 returns-clause-accepted c = record { accepted = refl; connection = refl }

@@ -8,7 +8,7 @@ pub loop-piece-preserved : goal.loop-piece-preserved
 loop-piece-preserved c =
     let first = words_cut c.loop-piece.rest.now c.in-Some.piece.now c.in-Some.after.now c.in-Some.ensures.value in
     let pushed : texts_in c.push_piece.new.words ≡ texts_in c.loop-piece.words ++ filter is_full (c.in-Some.piece.now ∷ []) = c.in_ok-push_piece.ensures in
-    ap (λ (front : List (List ℕ)). front ++ words_of c.in-Some.after.now) pushed
+    ap (λ (prefix : List (List ℕ)). prefix ++ words_of c.in-Some.after.now) pushed
     ∙ append_assoc (texts_in c.loop-piece.words) (filter is_full (c.in-Some.piece.now ∷ [])) (words_of c.in-Some.after.now)
     ∙ ap (λ (more : List (List ℕ)). texts_in c.loop-piece.words ++ more) (sym first)
     ∙ c.loop-piece.invariant

@@ -9,7 +9,7 @@ returns-in-Some-clause-pick c =
 
 pub returns-in-None-clause-pick : goal.returns-in-None-clause-pick
 returns-in-None-clause-pick c =
-    c.pick_in_next_round.ensures.pick ∙ taken_later c.args.servers.now c.args.cursor.now c.next_weight.result (ap (find (weighs c.args.cursor.now.cw)) (sym c.place_after-start.ensures.after) ∙ c.in-None.ensures.found) c.next_weight.ensures.number
+    c.pick_in_next_round.ensures.pick ∙ taken_later c.args.servers.now c.args.cursor.now c.next_current_weight.result (ap (find (weighs c.args.cursor.now.cw)) (sym c.place_after-start.ensures.after) ∙ c.in-None.ensures.found) c.next_current_weight.ensures.number
 
 pub returns-in-None-clause-none : goal.returns-in-None-clause-none
-returns-in-None-clause-none c = none_reached c.pick_in_next_round.result c.args.servers.now c.next_weight.result c.next_weight.ensures.reached c.pick_in_next_round.ensures.none
+returns-in-None-clause-none c = none_reached c.pick_in_next_round.result c.args.servers.now c.next_current_weight.result c.next_current_weight.ensures.reached c.pick_in_next_round.ensures.none

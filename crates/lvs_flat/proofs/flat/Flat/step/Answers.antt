@@ -9,13 +9,13 @@ use Rattle.lvs_flat.specs.Seen.{FlatSeen}
 use Rattle.lvs_flat.proofs.Room.{room_of_young}
 use Rattle.lvs_flat.proofs.flat.Flat.step.Goals as goal
 
-pub do_step-requires-clause-room : goal.do_step-requires-clause-room
-do_step-requires-clause-room c = room_of_young c.self.inside.steps (state_of c.self.inside.tables) (rw (ap (λ (f : FlatSeen). f.steps) c.self.view_is) c.requires.young) c.self.invariant.0
+pub take_item-requires-clause-room : goal.take_item-requires-clause-room
+take_item-requires-clause-room c = room_of_young c.self.inside.steps (state_of c.self.inside.tables) (rw (ap (λ (f : FlatSeen). f.steps) c.self.view_is) c.requires.young) c.self.invariant.0
 
-pub do_step-requires-clause-apart : goal.do_step-requires-clause-apart
-do_step-requires-clause-apart c = record { entries = c.self.invariant.1.entry_ids.apart; dests = c.self.invariant.1.dest_ids.apart }
+pub take_item-requires-clause-apart : goal.take_item-requires-clause-apart
+take_item-requires-clause-apart c = record { entries = c.self.invariant.1.entry_ids.apart; dests = c.self.invariant.1.dest_ids.apart }
 
 pub invariant_of-self-2 : goal.invariant_of-self-2
 invariant_of-self-2 c =
-    let next : state_of c.do_step.new.tables ≡ (step (state_of c.self.inside.tables) c.args.item.now).1 = ap (λ (p : Reply × State). p.1) c.in_ok-reply.ensures.ok in
+    let next : state_of c.take_item.new.tables ≡ (step (state_of c.self.inside.tables) c.args.item.now).1 = ap (λ (p : Reply × State). p.1) c.in_ok-reply.ensures.ok in
     rw next (counted_step c.self.inside.steps (state_of c.self.inside.tables) c.args.item.now c.requires.in_range c.self.invariant.0, step_well_formed (state_of c.self.inside.tables) c.args.item.now c.self.invariant.1)

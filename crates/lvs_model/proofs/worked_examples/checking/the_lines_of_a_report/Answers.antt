@@ -22,6 +22,6 @@ returns-clause-not_printed c = λ place act silent. ap (λ (b : Bool). cond b (w
 pub returns-clause-listing : goal.returns-clause-listing
 returns-clause-listing c = λ s kind.
     let text = text_of (snapshot_of s) kind in
-    let front = shown_name kind ++ 10 ∷ [] in
-    ap (λ (lines : List ℕ). front ++ lines ++ 10 ∷ []) (join_with_byte-slice_split 10 (text ++ codes "end"))
-    ∙ ap (λ (lines : List ℕ). lines ++ 10 ∷ []) (sym (append_assoc front text (codes "end")))
+    let prefix = shown_name kind ++ 10 ∷ [] in
+    ap (λ (lines : List ℕ). prefix ++ lines ++ 10 ∷ []) (join_with_byte-slice_split 10 (text ++ codes "end"))
+    ∙ ap (λ (lines : List ℕ). lines ++ 10 ∷ []) (sym (append_assoc prefix text (codes "end")))

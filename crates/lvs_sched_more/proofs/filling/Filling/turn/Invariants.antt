@@ -7,8 +7,8 @@ abbrev pub invariant-loop-left : goal.invariant-loop-left
 invariant-loop-left l = record {
   filling : IsFilling l.self.free l.self.slots;
   taken : l.taken ≡ count_by (is_of l.place) l.self.slots;
-  slots : (rest round : List ℕ) → fold (take_slot l.addrs) l.self.slots (takers l.self.free (replicate l.left l.place ++ rest) round) ≡ fold (take_slot l.addrs) l.initial.self.slots (takers l.initial.self.free (replicate l.turns l.place ++ rest) round);
-  free : l.self.free - l.left ≡ l.initial.self.free - l.turns;
+  slots : (rest round : List ℕ) → fold (take_slot l.addrs) l.self.slots (takers l.self.free (replicate l.left l.place ++ rest) round) ≡ fold (take_slot l.addrs) l.initial.self.slots (takers l.initial.self.free (replicate l.slots_a_round l.place ++ rest) round);
+  free : l.self.free - l.left ≡ l.initial.self.free - l.slots_a_round;
 }
 
 abbrev pub decreases-loop-left : goal.decreases-loop-left
