@@ -95,5 +95,5 @@ pub fn the_lines_of_a_report()
     ensures head { (book : RoundBook) → head_words book.number book.moment (record { workers = book.workers; buckets = book.buckets }) ++ 10 ∷ [] ≡ head_text book }
     ensures printed { (place : ℕ) (act : Noted) → is_printed act.reply ≡ true → act_words place act.actor act.number act.reply ++ 10 ∷ [] ≡ act_line place act }
     ensures not_printed { (place : ℕ) (act : Noted) → is_printed act.reply ≡ false → act_words place act.actor act.number act.reply ≡ [] }
-    ensures listing { (s : State) (kind : Shown) → shown_name kind ++ 10 ∷ [] ++ join_with_byte 10 (listing_lines s kind) ++ 10 ∷ [] ≡ report.shown_text (listings.shown_text s kind) }
+    ensures listing { (s : State) (kind : Shown) → shown_name kind ++ 10 ∷ [] ++ join_with_byte 10 (listing_lines s kind) ++ 10 ∷ [] ≡ report.shown_text (listings.shown_listing s kind) }
 {}
