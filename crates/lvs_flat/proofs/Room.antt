@@ -12,9 +12,9 @@ few n (e ∷ es) young each = (let small : e.packets ≤ n + 1 = each.0 in omega
 
 pub room_of_young : (n : ℕ) (s : State) → n < 2 ^ 62 → IsCounted n s → HasHeadroom s
 room_of_young n s young c = record {
-  now = omega (arith, c.now);
-  next_entry = omega (arith, c.next_entry);
-  next_dest = omega (arith, c.next_dest);
-  next_template = omega (arith, c.next_template);
+  now = omega (arith, c.numbers.now);
+  next_entry = omega (arith, c.numbers.next_entry);
+  next_dest = omega (arith, c.numbers.next_dest);
+  next_template = omega (arith, c.numbers.next_template);
   packets = few n s.entries young c.packets;
 }

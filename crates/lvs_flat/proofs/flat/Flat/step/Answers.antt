@@ -19,3 +19,9 @@ pub invariant_of-self-2 : goal.invariant_of-self-2
 invariant_of-self-2 c =
     let next : state_of c.take_item.new.tables ≡ (step (state_of c.self.inside.tables) c.args.item.now).1 = ap (λ (p : Reply × State). p.1) c.in_ok-reply.ensures.ok in
     rw next (counted_step c.self.inside.steps (state_of c.self.inside.tables) c.args.item.now c.requires.in_range c.self.invariant.0, step_well_formed (state_of c.self.inside.tables) c.args.item.now c.self.invariant.1)
+
+pub take_item-requires-clause-buckets : goal.take_item-requires-clause-buckets
+take_item-requires-clause-buckets c = c.self.invariant.0.numbers.buckets
+
+pub take_item-requires-clause-pending : goal.take_item-requires-clause-pending
+take_item-requires-clause-pending c = c.self.invariant.0.numbers.flags
