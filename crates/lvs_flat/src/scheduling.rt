@@ -197,7 +197,7 @@ fn move_cursor(tables: &mut Tables, key: ServiceKey, cursor: Cursor)
 }
 
 /// The cursor becomes this one, and the picked server takes the connection.
-fn move_cursor(
+fn move_on(
     tables: &mut Tables,
     p: &Packet<'_>,
     service: &Service,
@@ -231,7 +231,7 @@ fn pick_at(
 {
     match server {
         None => Reply::Drop(DropCause::NoDest),
-        Some(d) => move_cursor(tables, p, service, cursor, &d, room),
+        Some(d) => move_on(tables, p, service, cursor, &d, room),
     }
 }
 

@@ -2,7 +2,7 @@ use Rattle.std.proofs.Common.{ap, ◌∙◌}
 use Rattle.lvs_model.specs.State.{State}
 use Rattle.lvs_model.specs.Scheduling.{take_pick}
 use Rattle.lvs_flat.specs.Packets.{packet_of}
-use Rattle.lvs_flat.proofs.scheduling.move_cursor.Goals as goal
+use Rattle.lvs_flat.proofs.scheduling.move_on.Goals as goal
 
 pub returns : goal.returns
 returns c =
