@@ -5,7 +5,7 @@ use Rattle.lvs_flat.specs.declared.tables.Tables.{Tables}
 
 abbrev pub state_of : Tables → State
 state_of t = record {
-  now = t.now;
+  now = t.moment;
   local = t.local;
   buckets = t.buckets;
   settings = t.settings;
@@ -22,14 +22,14 @@ state_of t = record {
 
 -- there is room for one more entry and two more records, and their numbers fit
 pub record CanEnter (t : Tables) : Type 0 where
-  pub now : t.now < 2 ^ 32
+  pub moment : t.moment < 2 ^ 32
   pub entries : vec_len t.entries < vec_capacity t.entries
   pub next_entry : t.next_entry < 2 ^ 63
   pub pending : vec_len t.pending + 2 ≤ vec_capacity t.pending
 
 -- there is room for one more template too
 pub record IsRoomy (t : Tables) : Type 0 where
-  pub now : t.now < 2 ^ 32
+  pub moment : t.moment < 2 ^ 32
   pub entries : vec_len t.entries < vec_capacity t.entries
   pub next_entry : t.next_entry < 2 ^ 63
   pub pending : vec_len t.pending + 2 ≤ vec_capacity t.pending

@@ -18,7 +18,7 @@ use std::alloc::Global;
 pub(crate) fn tick(tables: &mut Tables, moment: u64) -> Reply
     ensures { (result, state_of tables.new) ≡ tick (state_of tables.old) moment }
 {
-    tables.now = moment;
+    tables.moment = moment;
     Reply::Ticked
 }
 
@@ -36,7 +36,7 @@ fn count_swept(tables: &Tables, bucket: u32) -> u64
     ensures { result ≡ length (filter (is_swept (state_of tables.now) bucket) tables.now.entries.items) }
 {
     let buckets = tables.buckets;
-    let now = tables.now;
+    let now = tables.moment;
     tables
         .entries
         .iter()
@@ -49,7 +49,7 @@ fn is_named_by_swept(tables: &Tables, bucket: u32, d: &Dest) -> bool
     ensures { result ≡ is_named_in (filter (is_swept (state_of tables.now) bucket) tables.now.entries.items) d.now }
 {
     let buckets = tables.buckets;
-    let now = tables.now;
+    let now = tables.moment;
     tables
         .entries
         .iter()
@@ -63,7 +63,7 @@ fn count_left_active(tables: &Tables, bucket: u32, id: DestId) -> u64
     ensures bound { result ≤ length tables.now.entries.items }
 {
     let buckets = tables.buckets;
-    let now = tables.now;
+    let now = tables.moment;
     tables
         .entries
         .iter()
@@ -78,7 +78,7 @@ fn count_left_inactive(tables: &Tables, bucket: u32, id: DestId) -> u64
     ensures bound { result ≤ length tables.now.entries.items }
 {
     let buckets = tables.buckets;
-    let now = tables.now;
+    let now = tables.moment;
     tables
         .entries
         .iter()
@@ -135,7 +135,7 @@ pub(crate) fn sweep(alloc: Global, tables: &mut Tables, bucket: u32) -> Result<R
 {
     let count = count_swept(tables, bucket);
     let dests = list_after_sweep(alloc, tables, bucket)?;
-    end_swept(&mut tables.entries, tables.buckets, tables.now, bucket);
+    end_swept(&mut tables.entries, tables.buckets, tables.moment, bucket);
     tables.dests = dests;
     Ok(Reply::Swept(count))
 }
@@ -143,13 +143,13 @@ pub(crate) fn sweep(alloc: Global, tables: &mut Tables, bucket: u32) -> Result<R
 fn is_finished(tables: &Tables, t: &Template) -> bool
     ensures { result ≡ is_over (state_of tables.now) t.now }
 {
-    t.deadline <= tables.now && count_controls(&tables.entries, t.id) == 0
+    t.deadline <= tables.moment && count_controls(&tables.entries, t.id) == 0
 }
 
 fn is_still_held(tables: &Tables, t: &Template) -> bool
     ensures { result ≡ is_held (state_of tables.now) t.now }
 {
-    t.deadline <= tables.now && 0 < count_controls(&tables.entries, t.id)
+    t.deadline <= tables.moment && 0 < count_controls(&tables.entries, t.id)
 }
 
 fn hold_longer(now: u64, t: &Template) -> Template
@@ -163,20 +163,20 @@ fn hold_longer(now: u64, t: &Template) -> Template
 }
 
 fn reaped(tables: &Tables, t: &Template) -> Option<Template>
-    requires { tables.now.now < 2 ^ 32 }
+    requires { tables.now.moment < 2 ^ 32 }
     ensures { result ≡ reaped_template (state_of tables.now) t.now }
 {
     if is_finished(tables, t) {
         None
     } else if is_still_held(tables, t) {
-        Some(hold_longer(tables.now, t))
+        Some(hold_longer(tables.moment, t))
     } else {
         Some(*t)
     }
 }
 
 fn list_reaped(alloc: Global, tables: &Tables) -> Result<Vec<Template>, NoMemory>
-    requires { tables.now.now < 2 ^ 32 }
+    requires { tables.now.moment < 2 ^ 32 }
     ensures { IfOk result (λ v. v.items ≡ reaped_templates (state_of tables.now)) }
 {
     let mut templates = Vec::with_capacity(alloc, tables.templates.len())?;
@@ -246,7 +246,7 @@ fn list_kept(
 /// Due templates leave or are held longer, and then the servers in the trash that nothing names are
 /// released.
 pub(crate) fn reap(alloc: Global, tables: &mut Tables) -> Result<Reply, NoMemory>
-    requires { tables.old.now < 2 ^ 32 }
+    requires { tables.old.moment < 2 ^ 32 }
     ensures ok { IfOk result (λ r. (r, state_of tables.new) ≡ reap (state_of tables.old)) }
     ensures err { OnErr result (state_of tables.new ≡ state_of tables.old) }
 {

@@ -63,7 +63,7 @@ pub(crate) fn put_in_state(
 
 /// The entry after one more packet of its client.
 fn with_packet(tables: &Tables, p: &Packet<'_>, e: &Entry) -> Entry
-    requires now { tables.now.now < 2 ^ 32 }
+    requires now { tables.now.moment < 2 ^ 32 }
     requires packets { HasFewPackets e.now }
     ensures { result ≡ after_packet (state_of tables.now) (packet_of p.now) e.now }
 {
@@ -72,7 +72,7 @@ fn with_packet(tables: &Tables, p: &Packet<'_>, e: &Entry) -> Entry
         packets: e.packets + 1,
         ..*e
     };
-    put_in_state(&tables.settings, tables.now, state, &counted)
+    put_in_state(&tables.settings, tables.moment, state, &counted)
 }
 
 fn push_template_records(tables: &mut Tables, template: Option<TemplateId>)
@@ -177,7 +177,7 @@ pub(crate) fn forward(
 pub(crate) fn forward_entry(tables: &mut Tables, p: &Packet<'_>, e: &Entry, room: Vec<u8>) -> Reply
     requires read { IsReadPacket p.now }
     requires roomy { IsRoomy tables.old }
-    requires now { tables.old.now < 2 ^ 32 }
+    requires now { tables.old.moment < 2 ^ 32 }
     requires packets { HasFewPackets e.now }
     requires empty { room.items ≡ [] }
     requires space { length p.now.bytes.now + 20 ≤ vec_capacity room }

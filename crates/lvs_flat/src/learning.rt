@@ -57,7 +57,7 @@ fn key_in(r: &SyncRecord) -> Key
 }
 
 fn entry_in(tables: &Tables, r: &SyncRecord) -> Entry
-    requires { tables.now.now < 2 ^ 32 }
+    requires { tables.now.moment < 2 ^ 32 }
     ensures { result ≡ recorded_entry (state_of tables.now) r.now }
 {
     Entry {
@@ -69,7 +69,7 @@ fn entry_in(tables: &Tables, r: &SyncRecord) -> Entry
         dport: r.dport,
         state: state_in(proto_in(r), r.state),
         timeout: timeout_in(r),
-        deadline: tables.now + u64::from(timeout_in(r)),
+        deadline: tables.moment + u64::from(timeout_in(r)),
         packets: 0,
         template: None,
         mark: r.mark,
@@ -88,13 +88,13 @@ fn add_entry(tables: &mut Tables, r: &SyncRecord)
 }
 
 fn with_record(tables: &Tables, r: &SyncRecord, e: &Entry) -> Entry
-    requires { tables.now.now < 2 ^ 32 }
+    requires { tables.now.moment < 2 ^ 32 }
     ensures { result ≡ relearnt (state_of tables.now) r.now e.now }
 {
     Entry {
         state: state_in(proto_in(r), r.state),
         timeout: timeout_in(r),
-        deadline: tables.now + u64::from(timeout_in(r)),
+        deadline: tables.moment + u64::from(timeout_in(r)),
         ..*e
     }
 }
@@ -156,7 +156,7 @@ fn template_key_in(r: &SyncRecord) -> TemplateKey
 }
 
 fn template_in(tables: &Tables, r: &SyncRecord) -> Template
-    requires { tables.now.now < 2 ^ 32 }
+    requires { tables.now.moment < 2 ^ 32 }
     ensures { result ≡ recorded_template (state_of tables.now) r.now }
 {
     Template {
@@ -167,7 +167,7 @@ fn template_in(tables: &Tables, r: &SyncRecord) -> Template
         daddr: r.daddr,
         dport: r.dport,
         timeout: timeout_in(r),
-        deadline: tables.now + u64::from(timeout_in(r)),
+        deadline: tables.moment + u64::from(timeout_in(r)),
     }
 }
 
@@ -185,12 +185,12 @@ fn add_template(tables: &mut Tables, r: &SyncRecord)
 }
 
 fn with_template_record(tables: &Tables, r: &SyncRecord, t: &Template) -> Template
-    requires { tables.now.now < 2 ^ 32 }
+    requires { tables.now.moment < 2 ^ 32 }
     ensures { result ≡ relearnt_template (state_of tables.now) r.now t.now }
 {
     Template {
         timeout: timeout_in(r),
-        deadline: tables.now + u64::from(timeout_in(r)),
+        deadline: tables.moment + u64::from(timeout_in(r)),
         ..*t
     }
 }

@@ -22,7 +22,7 @@ fn renew(tables: &Tables, seconds: u32, t: &Template) -> Template
 {
     Template {
         timeout: seconds,
-        deadline: tables.now + u64::from(seconds),
+        deadline: tables.moment + u64::from(seconds),
         ..*t
     }
 }

@@ -32,11 +32,11 @@ fn masquerade_back(head: &Head, bytes: &[u8], e: &Entry, mut room: Vec<u8>) -> B
 }
 
 fn renew(tables: &mut Tables, head: &Head, e: &Entry)
-    requires { tables.old.now < 2 ^ 32 }
-    ensures { state_of tables.new ≡ record (state_of tables.old) { entries = put_entry (in_state tables.old.settings tables.old.now (state_after e.now.state Direction.Output head.now) e.now) tables.old.entries.items } }
+    requires { tables.old.moment < 2 ^ 32 }
+    ensures { state_of tables.new ≡ record (state_of tables.old) { entries = put_entry (in_state tables.old.settings tables.old.moment (state_after e.now.state Direction.Output head.now) e.now) tables.old.entries.items } }
 {
     let state = state_then(e.state, Direction::Output, head);
-    let after = put_in_state(&tables.settings, tables.now, state, e);
+    let after = put_in_state(&tables.settings, tables.moment, state, e);
     put(&mut tables.entries, after);
 }
 
@@ -47,7 +47,7 @@ fn answer_out(
     bytes: &[u8],
     e: Option<Entry>,
 ) -> Result<Reply, NoMemory>
-    requires now { tables.old.now < 2 ^ 32 }
+    requires now { tables.old.moment < 2 ^ 32 }
     requires read { read bytes.now ≡ Ok head.now }
     requires whole { head.now.total ≡ length bytes.now }
     requires ports { has_ports head.now ≡ true }

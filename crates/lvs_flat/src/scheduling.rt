@@ -62,7 +62,7 @@ fn make_entry(
     d: &Dest,
     template: Option<TemplateId>,
 ) -> Entry
-    requires { tables.now.now < 2 ^ 32 }
+    requires { tables.now.moment < 2 ^ 32 }
     ensures { result ≡ new_entry (state_of tables.now) (packet_of p.now) service.now d.now template }
 {
     let state = state_then(first_state(p.proto), direction_of(d.spec.method), &p.head);
@@ -80,7 +80,7 @@ fn make_entry(
         template,
         mark: mark_for(service.key),
     };
-    put_in_state(&tables.settings, tables.now, state, &blank)
+    put_in_state(&tables.settings, tables.moment, state, &blank)
 }
 
 /// The connection gets its entry, which counts at its server.
@@ -139,7 +139,7 @@ pub(crate) fn connect_to(
 }
 
 fn make_template(tables: &Tables, key: TemplateKey, seconds: u32, d: &Dest) -> Template
-    requires { tables.now.now < 2 ^ 32 }
+    requires { tables.now.moment < 2 ^ 32 }
     ensures { result ≡ new_template (state_of tables.now) key seconds d.now }
 {
     Template {
@@ -150,7 +150,7 @@ fn make_template(tables: &Tables, key: TemplateKey, seconds: u32, d: &Dest) -> T
         daddr: d.spec.addr,
         dport: d.spec.port,
         timeout: seconds,
-        deadline: tables.now + u64::from(seconds),
+        deadline: tables.moment + u64::from(seconds),
     }
 }
 

@@ -124,7 +124,7 @@ pub(crate) fn show(alloc: Global, tables: &Tables) -> Result<Snapshot, NoMemory>
     let templates = sort_templates(tables.templates.to_vec(alloc)?)?;
     let entries = sort_entries(tables.entries.to_vec(alloc)?)?;
     Ok(Snapshot {
-        now: tables.now,
+        now: tables.moment,
         local: tables.local,
         settings: tables.settings,
         daemons: tables.daemons,

@@ -10,7 +10,7 @@ use std::alloc::Global;
 #[derive(Drop)]
 pub(crate) struct Tables {
     /// The present moment, in seconds.
-    pub now: u64,
+    pub moment: u64,
     pub local: Addr,
     pub buckets: u32,
     pub settings: Settings,
@@ -31,7 +31,7 @@ impl Tables {
         ensures { state_of result ≡ initial local buckets }
     {
         Tables {
-            now: 0,
+            moment: 0,
             local,
             buckets,
             settings: Settings::initial(),
