@@ -9,7 +9,7 @@ appends_more (Some xs) None new a b first then = absurd first
 appends_more (Some xs) (Some ys) None a b first then = then
 appends_more (Some xs) (Some ys) (Some zs) a b first then = then ∙ ap (λ (l : List ℕ). l ++ b) first ∙ append_assoc xs a b
 
--- a write of n bytes goes on where the front of at bytes ends
+-- a write of n bytes goes on where the prefix of at bytes ends
 pub appends_take : (old mid new : Option (List ℕ)) (bytes : List ℕ) (at n : ℕ) → Appends old mid (take at bytes) → Appends mid new (take n (drop at bytes)) → Appends old new (take (at + n) bytes)
 appends_take old mid new bytes at n first then = rw take-add (appends_more old mid new (take at bytes) (take n (drop at bytes)) first then)
 

@@ -1,5 +1,5 @@
 -- A source and a sink in memory (this project's profile).
-use Rattle.std.specs.Prelude.{◌≡◌, ℕ, ◌+◌, ◌-◌, ◌^◌, min, List, length, drop, take, ◌++◌, Bool, true, false, ◌&&◌, ◌||◌, ◌==◌, nat_lt, Option, Result, Ok, Err}
+use Rattle.std.specs.Prelude.{◌≡◌, ℕ, ◌+◌, ◌-◌, ◌^◌, min, List, length, drop, take, ◌++◌, Bool, true, false, ◌&&◌, ◌||◌, ◌==◌, nat_lt, Result, Ok, Err}
 use Rattle.std.specs.List.{list_any}
 use Rattle.lvs_types.specs.declared.memory.Failed.{Failed}
 
@@ -18,11 +18,6 @@ pub record SinkSeen : Type 0 where
   pub piece : ℕ
   pub fails : List ℕ
   pub calls : ℕ
-  pub faults : ℕ
-
--- what a contract sees of a reader of std that serves as a source
-pub record ReadSeen : Type 0 where
-  pub left : Option (List ℕ)
   pub faults : ℕ
 
 -- one more, up to the last number of 64 bits

@@ -16,7 +16,7 @@ pub struct ReadSource<R: Read> {
 }
 
 impl<R: Read> Model for ReadSource<R> {
-    ghost use Rattle.lvs_outside.specs.Memory.{ReadSeen};
+    ghost use Rattle.lvs_outside.specs.Streams.{ReadSeen};
 
     ghost Value = { ReadSeen };
 
@@ -30,6 +30,13 @@ impl<R: Read> ReadSource<R> {
         ensures faults { result.faults ≡ 0 }
     {
         ReadSource { inner, faults: 0 }
+    }
+
+    /// The reader, as it is.
+    pub fn into_inner(self) -> R
+        ensures { R.remaining result ≡ self.left }
+    {
+        self.inner
     }
 }
 

@@ -1,6 +1,7 @@
 //! Reading a source to its end.
 ghost use Rattle.std.specs.Prelude.{◌≡◌, ◌≢◌, ◌≤◌, ◌+◌, ℕ, List, IfOk, OnOk, length};
 ghost use Rattle.std.specs.Io.KnownBytes.{Consumes, IsAtEnd};
+ghost use Rattle.lvs_types.specs.Limits.{max_input};
 ghost use Rattle.lvs_outside.specs.Faults.{Rose};
 
 use crate::Source;
@@ -20,6 +21,7 @@ pub enum ReadStop {
     Fault,
     /// It has more than `MAX_INPUT` bytes: one more was read.
     TooLong,
+    /// There was no memory for the bytes.
     NoMemory,
 }
 
@@ -35,12 +37,12 @@ fn new_piece(alloc: Global, size: usize) -> Result<Vec<u8>, NoMemory>
 pub fn read_all<S: Source>(alloc: Global, source: &mut S) -> Result<Vec<u8>, ReadStop>
     ensures whole { IfOk result (λ v. Consumes (S.left source.old) (S.left source.new) v.items) }
     ensures end { OnOk result (IsAtEnd (S.left source.new)) }
-    ensures fits { IfOk result (λ v. length v.items ≤ MAX_INPUT) }
+    ensures fits { IfOk result (λ v. length v.items ≤ max_input) }
     ensures fault { result ≡ Err ReadStop.Fault → Rose (S.faults source.old) (S.faults source.new) }
-    ensures before { result ≡ Err ReadStop.Fault → (bytes : List ℕ) × (length bytes ≤ MAX_INPUT) × Consumes (S.left source.old) (S.left source.new) bytes }
+    ensures before { result ≡ Err ReadStop.Fault → (bytes : List ℕ) × (length bytes ≤ max_input) × Consumes (S.left source.old) (S.left source.new) bytes }
     ensures kept { result ≢ Err ReadStop.Fault → S.faults source.new ≡ S.faults source.old }
-    ensures too_long { result ≡ Err ReadStop.TooLong → (bytes : List ℕ) × (length bytes ≡ MAX_INPUT + 1) × Consumes (S.left source.old) (S.left source.new) bytes }
-    ensures limit { (bytes : List ℕ) × (length bytes ≤ MAX_INPUT + 1) × Consumes (S.left source.old) (S.left source.new) bytes }
+    ensures too_long { result ≡ Err ReadStop.TooLong → (bytes : List ℕ) × (length bytes ≡ max_input + 1) × Consumes (S.left source.old) (S.left source.new) bytes }
+    ensures limit { (bytes : List ℕ) × (length bytes ≤ max_input + 1) × Consumes (S.left source.old) (S.left source.new) bytes }
 {
     let mut bytes = Vec::new(alloc);
     let Ok(mut piece) = new_piece(alloc, PIECE) else {

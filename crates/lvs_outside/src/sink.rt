@@ -14,7 +14,7 @@ pub trait Sink {
     /// How often it has failed.
     ghost faults: { Self → ℕ };
 
-    /// Takes a front of the bytes, and answers how many: at least one of a piece that isn't empty.
+    /// Takes a prefix of the bytes, and answers how many: at least one of a piece that isn't empty.
     /// Failed comes only where the count of faults rose, and takes nothing.
     fn write(&mut self, bytes: &[u8]) -> Result<usize, Failed>
         ensures bound { WritesAtMost result bytes.now }

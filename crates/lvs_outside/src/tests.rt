@@ -5,8 +5,39 @@ use crate::{
 };
 use lvs_types::Failed;
 use std::alloc::Global;
-use std::io::Cursor;
+use std::io;
+use std::io::{Cursor, ErrorKind, Read, Write};
 use std::test::Fail;
+
+/// A writer that takes all, and whose flush fails.
+#[derive(Drop)]
+struct StuckWriter(Vec<u8>);
+
+impl Write for StuckWriter {
+    fn write(&mut self, bytes: &[u8]) -> io::Result<usize> {
+        self.0.write(bytes)
+    }
+
+    fn flush(&mut self) -> io::Result<()> {
+        Err(io::Error::from(ErrorKind::BrokenPipe))
+    }
+}
+
+/// A reader that fails once, and then has no more.
+#[derive(Drop)]
+struct FailingReader {
+    has_failed: bool,
+}
+
+impl Read for FailingReader {
+    fn read(&mut self, _buf: &mut [u8]) -> io::Result<usize> {
+        if self.has_failed {
+            return Ok(0);
+        }
+        self.has_failed = true;
+        Err(io::Error::from(ErrorKind::Other))
+    }
+}
 
 fn filled(alloc: Global, count: usize) -> Result<Vec<u8>, Fail> {
     Ok(vec![in alloc; 7u8; count]?)
@@ -59,6 +90,39 @@ fn a_reader_and_a_writer_of_std_serve(rt: HostRuntime) -> Result<(), Fail> {
     }
     let mut sink = WriteSink::new(Vec::new(alloc));
     assert_eq!(rt; write_all(&mut sink, b"xyz"), Ok(()));
+    assert_eq!(rt; sink.faults(), 0);
+    assert_eq!(rt; sink.into_inner().as_slice(), b"xyz".as_slice());
+    Ok(())
+}
+
+#[test]
+fn a_write_is_offered_whole(rt: HostRuntime) -> Result<(), Fail> {
+    let alloc = rt.alloc();
+    let bytes = filled(alloc, 100_000)?;
+    let mut sink = WriteSink::new(Vec::new(alloc));
+    assert_eq!(rt; sink.write(&bytes), Ok(100_000));
+    Ok(())
+}
+
+#[test]
+fn a_flush_that_fails_is_a_fault_and_nothing_follows_it(rt: HostRuntime) -> Result<(), Fail> {
+    let alloc = rt.alloc();
+    let mut sink = WriteSink::new(StuckWriter(Vec::new(alloc)));
+    assert_eq!(rt; sink.write(b"abc"), Err(Failed));
+    assert_eq!(rt; sink.write(b"def"), Err(Failed));
+    assert_eq!(rt; sink.faults(), 2);
+    assert_eq!(rt; sink.into_inner().0.as_slice(), b"abc".as_slice());
+    Ok(())
+}
+
+#[test]
+fn a_read_that_fails_is_no_end(rt: HostRuntime) -> Result<(), Fail> {
+    let mut source = ReadSource::new(FailingReader { has_failed: false });
+    assert_eq!(rt;
+        read_all(rt.alloc(), &mut source).err(),
+        Some(ReadStop::Fault)
+    );
+    assert!(rt; source.into_inner().has_failed);
     Ok(())
 }
 
