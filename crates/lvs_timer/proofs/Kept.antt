@@ -1,109 +1,134 @@
 -- A store of timers after each change is a store, with the timers that the change says.
-use Rattle.std.proofs.Common.{◌≡◌, ℕ, ◌+◌, ◌-◌, ◌<◌, ◌≤◌, ◌%◌, Bool, true, false, cond, not, List, [], ◌∷◌, ◌++◌, length, Option, Some, None, refl, sym, ◌∙◌, ap, subst, arith, get_or, set, count_by, inl, inr}
-use Rattle.std.specs.List.{AllByRecursion, filter, find}
-use Rattle.std.proofs.lemmas.Bool.{eqb-true, eqb-false}
-use Rattle.std.proofs.lemmas.List.{length-set}
-use Rattle.std.proofs.lemmas.List.Sums.{length-filter}
-use Rattle.lvs_model.specs.Lists.{without, sorted_by, insert_by}
-use Rattle.lvs_model.proofs.OrderLemmas.{all_weaker, all_filter, filter_sorted, sorted_put, none_found, find_sorted, count_filter, join_front, put_once}
+use Rattle.std.proofs.Common.{◌≡◌, ℕ, ◌-◌, ◌≤◌, Bool, true, cond, not, List, [], ◌∷◌, ◌++◌, Some, None, refl, sym, ◌∙◌, ap, subst, arith, count_by, append_assoc, append-nil, false, slice_get, length, take, zero, suc}
+use Rattle.std.specs.List.{AllByRecursion, find}
+use Rattle.std.proofs.lemmas.Bool.{eqb-true, eqb-false, eq-eqb, ne_eqb}
+use Rattle.std.proofs.lemmas.List.Elements.{filter-append}
+use Rattle.std.proofs.lemmas.List.Sums.{sum_by-append}
+use Rattle.lvs_model.specs.Lists.{without, insert_by}
+use Rattle.lvs_model.proofs.OrderLemmas.{all_weaker, filter_sorted, sorted_put, none_found, find_none, find_sorted, count_filter, join_front, count_put, put_once, found_holds, none_counted}
 use Rattle.lvs_timer.specs.declared.timer.Timer.{Timer}
 use Rattle.lvs_timer.specs.Timers.{has_id}
-use Rattle.lvs_timer.specs.Seen.{ShelfSeen}
-use Rattle.lvs_timer.specs.Shelves.{Has, IsEntered, IsStore, all_of, timers_in}
-use Rattle.lvs_timer.proofs.DueOrder.{all_put}
-use Rattle.lvs_timer.proofs.Shelved.{IsOf, id_only, filter_at, shelf_at, shelved_set, without_at, entered_at}
-use Rattle.lvs_timer.proofs.Widened.{room_write, room_less, room_at}
+use Rattle.lvs_timer.specs.DueLists.{IsEntered, AreOnce, in_order}
 
 abbrev pub id_of : Timer → ℕ
 id_of t = t.id
 
-has_step : (b : Bool) (x t : Timer) (ts : List Timer) (o : Option Timer) → cond b (Some t) o ≡ Some x → (o ≡ Some x → Has x ts) → Has x (t ∷ ts)
-has_step true x t ts o found later = inl (cc)
-has_step false x t ts o found later = inr (later found)
+-- no timer has the id of this one
+abbrev pub AreOthers : Timer → List Timer → Type 0
+AreOthers x ts = AllByRecursion (λ (t : Timer). t.id ≡ x.id → ⊥) ts
 
-found_has : (p : Timer → Bool) (x : Timer) (ts : List Timer) → find p ts ≡ Some x → Has x ts
-found_has p x [] found = absurd (cc)
-found_has p x (t ∷ ts) found = has_step (p t) x t ts (find p ts) found (found_has p x ts)
+others_from : (x : Timer) (ts : List Timer) → AllByRecursion (λ (t : Timer). has_id x.id t ≡ false) ts → AreOthers x ts
+others_from x ts none = all_weaker (λ (t : Timer). has_id x.id t ≡ false) (λ (t : Timer). t.id ≡ x.id → ⊥) (λ t other. eqb-false t.id x.id other) ts none
 
-module _ (shelves : List ShelfSeen) (room : ℕ) (store : IsStore shelves room) (id k : ℕ) (d : ShelfSeen) (is : k ≡ id % 16) where
-  within : k < length shelves
-  within = let count = store.count in let below : id % 16 < 16 = omega arith in omega arith
+none_has : (x : Timer) (n : ℕ) (ts : List Timer) → x.id ≡ n → AreOthers x ts → AllByRecursion (λ (t : Timer). has_id n t ≡ false) ts
+none_has x n ts is others = all_weaker (λ (t : Timer). t.id ≡ x.id → ⊥) (λ (t : Timer). has_id n t ≡ false) (λ t other. ne_eqb t.id n (λ same. other (same ∙ sym is))) ts others
 
-  part : filter (has_id id) (all_of shelves) ≡ filter (has_id id) (get_or shelves k d).timers
-  part = filter_at (has_id id) 0 k k d shelves (id_only id k is) store.shelved within (omega arith)
+pub not_found : (x : Timer) (ts : List Timer) → AreOthers x ts → find (has_id x.id) ts ≡ None
+not_found x ts others = find_none (has_id x.id) ts (none_has x x.id ts refl others)
 
-  -- the search of the list of the id
-  pub found_at : find (has_id id) (timers_in shelves) ≡ find (has_id id) (get_or shelves k d).timers
-  found_at = find_sorted id_of (has_id id) (all_of shelves) (get_or shelves k d).timers (store.ids id) part
+-- ---- one more
 
-  pub has_at : (x : Timer) → find (has_id id) (timers_in shelves) ≡ Some x → Has x (get_or shelves k d).timers
-  has_at x found = found_has (has_id id) x (get_or shelves k d).timers (sym found_at ∙ found)
+once_put : (x : Timer) (front back : List Timer) → AreOnce (front ++ back) → AreOthers x (front ++ back) → AreOnce (front ++ x ∷ back)
+once_put x front back once others q =
+    put_once (has_id q) x front back (has_id q x) refl (λ passes. none_has x q (front ++ back) (eqb-true x.id q passes) others) (once q)
 
-  pub once_at : count_by (has_id id) (get_or shelves k d).timers ≤ 1
-  once_at =
-      let all = length-filter (has_id id) (all_of shelves) in
-      let some = length-filter (has_id id) (get_or shelves k d).timers in
-      let same = ap (λ (ts : List Timer). length ts) part in
-      let few = store.ids id in
+sorted_last : (x : Timer) (ts : List Timer) → AreOthers x ts → in_order (ts ++ x ∷ []) ≡ insert_by id_of x (in_order ts)
+sorted_last x ts others = sorted_put id_of x ts [] others ∙ ap (λ us. insert_by id_of x (in_order us)) (append-nil ts)
+
+once_last : (x : Timer) (ts : List Timer) → AreOnce ts → AreOthers x ts → AreOnce (ts ++ x ∷ [])
+once_last x ts once others = once_put x ts [] (subst AreOnce (sym (append-nil ts)) once) (subst (AreOthers x) (sym (append-nil ts)) others)
+
+others_last : (x : Timer) (ts : List Timer) → AreOnce (ts ++ x ∷ []) → AreOthers x ts
+others_last x ts once =
+    let here : cond {A = ℕ} (has_id x.id x) 1 0 ≡ 1 = ap (λ (b : Bool). cond {A = ℕ} b 1 0) (eq-eqb x.id x.id refl) in
+    let whole = count_put (has_id x.id) x ts [] in
+    let end = ap (λ us. count_by (has_id x.id) us) (append-nil ts) in
+    let few = once x.id in
+    others_from x ts (none_counted (has_id x.id) ts (omega arith))
+
+less_last : (x : Timer) (ts : List Timer) → AreOnce (ts ++ x ∷ []) → AreOnce ts
+less_last x ts once q =
+    let whole = sum_by-append (λ t. cond {A = ℕ} (has_id q t) 1 0) ts (x ∷ []) in
+    let few = once q in
+    omega arith
+
+-- a timer is armed
+module _ (x : Timer) (due fresh : List Timer) (once : AreOnce (due ++ fresh)) (new_id : find (has_id x.id) (in_order (due ++ fresh)) ≡ None) where
+  others_armed : AreOthers x (due ++ fresh)
+  others_armed =
+      others_from x (due ++ fresh) (none_found (has_id x.id) (due ++ fresh) (sym (find_sorted id_of (has_id x.id) (due ++ fresh) (due ++ fresh) (once x.id) refl) ∙ new_id))
+
+  pub timers_armed : in_order (due ++ (fresh ++ x ∷ [])) ≡ insert_by id_of x (in_order (due ++ fresh))
+  timers_armed = ap in_order (sym (append_assoc due fresh (x ∷ []))) ∙ sorted_last x (due ++ fresh) others_armed
+
+  pub once_armed : AreOnce (due ++ (fresh ++ x ∷ []))
+  once_armed = subst AreOnce (append_assoc due fresh (x ∷ [])) (once_last x (due ++ fresh) once others_armed)
+
+-- ---- the last of the fresh ones goes to the due list
+
+module _ (x : Timer) (due fresh rest : List Timer) (is : fresh ≡ rest ++ x ∷ []) (once : AreOnce (due ++ fresh)) where
+  whole : due ++ fresh ≡ (due ++ rest) ++ x ∷ []
+  whole = ap (λ ts. due ++ ts) is ∙ sym (append_assoc due rest (x ∷ []))
+
+  once_whole : AreOnce ((due ++ rest) ++ x ∷ [])
+  once_whole = subst AreOnce whole once
+
+  others : AreOthers x (due ++ rest)
+  others = others_last x (due ++ rest) once_whole
+
+  pub new_in_due : find (has_id x.id) due ≡ None
+  new_in_due = not_found x due (join_front (λ (t : Timer). t.id ≡ x.id → ⊥) due rest others)
+
+  module _ (due' : List Timer) (put : IsEntered x due due') where
+    apart : due ++ rest ≡ put.front ++ (put.back ++ rest)
+    apart = ap (λ ts. ts ++ rest) put.was ∙ append_assoc put.front put.back rest
+
+    together : due' ++ rest ≡ put.front ++ x ∷ (put.back ++ rest)
+    together = ap (λ ts. ts ++ rest) put.is ∙ append_assoc put.front (x ∷ put.back) rest
+
+    others_apart : AreOthers x (put.front ++ (put.back ++ rest))
+    others_apart = subst (AreOthers x) apart others
+
+    pub timers_settled : in_order (due' ++ rest) ≡ in_order (due ++ fresh)
+    timers_settled =
+        ap in_order together ∙ sorted_put id_of x put.front (put.back ++ rest) (join_front (λ (t : Timer). t.id ≡ x.id → ⊥) put.front (put.back ++ rest) others_apart)
+        ∙ ap (λ ts. insert_by id_of x (in_order ts)) (sym apart) ∙ sym (sorted_last x (due ++ rest) others) ∙ ap in_order (sym whole)
+
+    pub once_settled : AreOnce (due' ++ rest)
+    once_settled = subst AreOnce (sym together) (once_put x put.front (put.back ++ rest) (subst AreOnce apart (less_last x (due ++ rest) once_whole)) others_apart)
+
+-- ---- a timer is disarmed
+
+module _ (x : Timer) (due fresh : List Timer) (once : AreOnce (due ++ fresh)) where
+  pub same_in_due : find (has_id x.id) (in_order (due ++ fresh)) ≡ Some x → AllByRecursion (λ (t : Timer). has_id x.id t ≡ true → t ≡ x) due
+  same_in_due found =
+      join_front (λ (t : Timer). has_id x.id t ≡ true → t ≡ x) due fresh
+      (found_holds (λ (t : Timer). t ≡ x) (has_id x.id) x (due ++ fresh) (once x.id) (sym (find_sorted id_of (has_id x.id) (due ++ fresh) (due ++ fresh) (once x.id) refl) ∙ found) refl)
+
+  pub once_in_due : count_by (has_id x.id) due ≤ 1
+  once_in_due =
+      let parts = sum_by-append (λ t. cond {A = ℕ} (has_id x.id t) 1 0) due fresh in
+      let few = once x.id in
       omega arith
 
-  -- where the id is disarmed
-  module _ (s : ShelfSeen) (left : s.timers ≡ without (has_id id) (get_or shelves k d).timers) where
-    all_without : all_of (set shelves k s) ≡ without (has_id id) (all_of shelves)
-    all_without = without_at (has_id id) 0 k k d shelves s (id_only id k is) store.shelved within (omega arith) left
+  left : (n : ℕ) (due' fresh' : List Timer) → due' ≡ without (has_id n) due → fresh' ≡ without (has_id n) fresh → due' ++ fresh' ≡ without (has_id n) (due ++ fresh)
+  left n due' fresh' is_due is_fresh =
+      ap (λ ts. ts ++ fresh') is_due ∙ ap (λ ts. without (has_id n) due ++ ts) is_fresh ∙ sym (filter-append (λ t. not (has_id n t)) due fresh)
 
-    pub timers_without : timers_in (set shelves k s) ≡ without (has_id id) (timers_in shelves)
-    timers_without = ap (sorted_by id_of) all_without ∙ sym (filter_sorted id_of (λ t. not (has_id id t)) (all_of shelves))
+  pub timers_without : (n : ℕ) (due' fresh' : List Timer) → due' ≡ without (has_id n) due → fresh' ≡ without (has_id n) fresh → in_order (due' ++ fresh') ≡ without (has_id n) (in_order (due ++ fresh))
+  timers_without n due' fresh' is_due is_fresh = ap in_order (left n due' fresh' is_due is_fresh) ∙ sym (filter_sorted id_of (λ t. not (has_id n t)) (due ++ fresh))
 
-    members : AllByRecursion (IsOf k) s.timers
-    members = rw left (all_filter (IsOf k) (λ t. not (has_id id t)) (get_or shelves k d).timers (shelf_at 0 k k d shelves store.shelved within (omega arith)))
+  pub once_without : (n : ℕ) (due' fresh' : List Timer) → due' ≡ without (has_id n) due → fresh' ≡ without (has_id n) fresh → AreOnce (due' ++ fresh')
+  once_without n due' fresh' is_due is_fresh q =
+      rw (left n due' fresh' is_due is_fresh) (let less = count_filter (has_id q) (λ t. not (has_id n t)) (due ++ fresh) in let few = once q in omega arith)
 
-    pub store_without : (get_or shelves k d).spare ≤ s.spare → IsStore (set shelves k s) room
-    store_without wide = record {
-      count = length-set shelves k s ∙ store.count;
-      shelved = shelved_set 0 k k shelves s store.shelved within (omega arith) members;
-      ids = λ q. rw all_without (let less = count_filter (has_id q) (λ t. not (has_id id t)) (all_of shelves) in let once = store.ids q in omega arith);
-      shelf_room = room_write room shelves k s (let was = room_at room shelves k d within store.shelf_room in omega arith) store.shelf_room;
-    }
+split_last : (x : Timer) (xs : List Timer) (i : ℕ) → slice_get xs i ≡ Some x → suc i ≡ length xs → xs ≡ take i xs ++ x ∷ []
+split_last x [] i got is = absurd (omega arith)
+split_last x (y ∷ []) zero got is = let same : y ≡ x = cc in ap (λ z. z ∷ []) same
+split_last x (y ∷ z ∷ ys) zero got is = absurd (omega arith)
+split_last x (y ∷ ys) (suc i) got is = ap (λ zs. y ∷ zs) (split_last x ys i got (omega arith))
 
-  -- where it is armed
-  module _ (deadline : ℕ) (s : ShelfSeen) (new_id : find (has_id id) (timers_in shelves) ≡ None) (put : IsEntered (record { id = id; deadline = deadline }) (get_or shelves k d).timers s.timers) where
-    abbrev x : Timer
-    x = record { id = id; deadline = deadline }
-
-    no_id : AllByRecursion (λ (t : Timer). has_id id t ≡ false) (all_of shelves)
-    no_id = none_found (has_id id) (all_of shelves) (sym (find_sorted id_of (has_id id) (all_of shelves) (all_of shelves) (store.ids id) refl) ∙ new_id)
-
-    others : AllByRecursion (λ (t : Timer). t.id ≡ id → ⊥) (all_of shelves)
-    others = all_weaker (λ (t : Timer). has_id id t ≡ false) (λ (t : Timer). t.id ≡ id → ⊥) (λ t other. eqb-false t.id id other) (all_of shelves) no_id
-
-    entered : IsEntered x (all_of shelves) (all_of (set shelves k s))
-    entered = entered_at x k d shelves s within put
-
-    pub timers_armed : timers_in (set shelves k s) ≡ insert_by id_of x (timers_in shelves)
-    timers_armed =
-        let all : AllByRecursion (λ (t : Timer). t.id ≡ id → ⊥) (entered.front ++ entered.back) = subst (λ (ts : List Timer). AllByRecursion (λ (t : Timer). t.id ≡ id → ⊥) ts) entered.was others in
-        ap (sorted_by id_of) entered.is ∙ sorted_put id_of x entered.front entered.back (join_front (λ (t : Timer). t.id ≡ id → ⊥) entered.front entered.back all)
-        ∙ ap (λ (ts : List Timer). insert_by id_of x (sorted_by id_of ts)) (sym entered.was)
-
-    id_new : (q : ℕ) → has_id q x ≡ true → AllByRecursion (λ (t : Timer). has_id q t ≡ false) (all_of shelves)
-    id_new q passes = subst (λ n. AllByRecursion (λ (t : Timer). has_id n t ≡ false) (all_of shelves)) (eqb-true id q passes) no_id
-
-    ids_once : (q : ℕ) → count_by (has_id q) (all_of (set shelves k s)) ≤ 1
-    ids_once q =
-        rw entered.is
-        (put_once (has_id q) x entered.front entered.back (has_id q x) refl (λ passes. subst (λ (ts : List Timer). AllByRecursion (λ t. has_id q t ≡ false) ts) entered.was (id_new q passes))
-        (subst (λ (ts : List Timer). count_by (has_id q) ts ≤ 1) entered.was (store.ids q)))
-
-    members' : AllByRecursion (IsOf k) s.timers
-    members' =
-        subst (λ (ts : List Timer). AllByRecursion (IsOf k) ts) (sym put.is)
-        (all_put (IsOf k) x put.front put.back (sym is) (subst (λ (ts : List Timer). AllByRecursion (IsOf k) ts) put.was (shelf_at 0 k k d shelves store.shelved within (omega arith))))
-
-    pub store_armed : (get_or shelves k d).spare ≤ s.spare + 1 → 0 < room → IsStore (set shelves k s) (room - 1)
-    store_armed used some = record {
-      count = length-set shelves k s ∙ store.count;
-      shelved = shelved_set 0 k k shelves s store.shelved within (omega arith) members';
-      ids = ids_once;
-      shelf_room = room_write (room - 1) shelves k s (let was = room_at room shelves k d within store.shelf_room in omega arith) (room_less room (room - 1) shelves (omega arith) store.shelf_room);
-    }
+-- a list by its last element
+pub split_end : (x : Timer) (xs : List Timer) → slice_get xs (length xs - 1) ≡ Some x → xs ≡ take (length xs - 1) xs ++ x ∷ []
+split_end x [] got = absurd (cc)
+split_end x (y ∷ ys) got = split_last x (y ∷ ys) (length (y ∷ ys) - 1) got (omega arith)

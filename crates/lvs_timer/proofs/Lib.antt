@@ -1,6 +1,4 @@
-pub mod DueOrder
-pub mod Shelved
-pub mod Widened
+pub mod ByDeadline
 pub mod Kept
 pub mod Due
 pub mod Below

@@ -7,8 +7,3 @@ pub record TimersSeen : Type 0 where
   pub timers : List Timer
   -- how many more can be armed without memory
   pub spare : ℕ
-
--- one due list
-pub record ShelfSeen : Type 0 where
-  pub timers : List Timer
-  pub spare : ℕ

@@ -1,5 +1,5 @@
 -- Timers as a list, and which of them are due (this project's profile).
-use Rattle.std.specs.Prelude.{ℕ, Bool, ◌&&◌, ◌||◌, ◌==◌, nat_lt, nat_le, List, map}
+use Rattle.std.specs.Prelude.{ℕ, Bool, ◌==◌, nat_le, List, map}
 use Rattle.std.specs.List.Sorted.{IsStrictlyIncreasing}
 use Rattle.lvs_timer.specs.declared.timer.Timer.{Timer}
 
@@ -12,10 +12,6 @@ is_due now t = nat_le t.deadline now
 
 abbrev pub ids_of : List Timer → List ℕ
 ids_of timers = map (λ (t : Timer). t.id) timers
-
--- the order of a due list: by deadline, and then by id
-abbrev pub is_before : Timer → Timer → Bool
-is_before t u = nat_lt t.deadline u.deadline || (t.deadline == u.deadline && nat_lt t.id u.id)
 
 -- each id once, in order of id
 abbrev pub AreListed : List Timer → Type 0

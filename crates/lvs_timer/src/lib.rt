@@ -1,8 +1,8 @@
-//! The deadlines of entries, in due lists.
+//! The deadlines of entries, in a due list.
 #![tactic(auto)]
 
-mod shelf;
-mod shelves;
+mod due_list;
+mod fresh;
 #[cfg(test)]
 mod tests;
 mod timer;

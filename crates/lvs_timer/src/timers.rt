@@ -1,47 +1,42 @@
 //! The deadlines of one bucket's entries.
-ghost use Rattle.std.specs.Prelude.{◌≡◌, ◌<◌, ◌≤◌, ◌+◌, ◌%◌, ◌^◌, [], count_by, IfOk, OnOk, OnErr, None, Some};
+ghost use Rattle.std.specs.Prelude.{◌≡◌, ◌<◌, ◌≤◌, ◌+◌, ◌^◌, [], length, count_by, IfOk, OnOk, OnErr, None, Some};
 ghost use Rattle.std.specs.List.{find, filter};
 ghost use Rattle.lvs_model.specs.Lists.{without, insert_by};
 ghost use Rattle.lvs_timer.specs.declared.timer.Timer.{Timer};
 ghost use Rattle.lvs_timer.specs.Timers.{has_id, is_due, ids_of, AreListed};
 ghost use Rattle.std.specs.List.Sorted.{IsStrictlyIncreasing};
 
-use crate::shelf::Shelf;
-use crate::shelves::{gather_due, make_room, make_shelves};
+use crate::due_list::DueList;
+use crate::fresh::{FRESH, list_fresh, settle};
 use crate::timer::Timer;
 use lvs_types::{NoMemory, Steps};
 use std::alloc::Global;
 use std::marker::{Brand, Model};
 use std::sync::ledger::{Blank, Ledger};
 
-/// For how many timers `reserve` makes room in each list at once.
-const ROOM: usize = 4;
-
 /// Ids with their deadlines, each id once. Contracts see them in order of id.
 #[derive(Debug, Drop)]
 pub struct Timers {
-    shelves: Vec<Shelf>,
-    /// For how many more there is room in each list.
+    due: DueList,
+    /// The timers that were armed last. They have room of their own, since an ordered tree can't
+    /// promise any, and go to the due list where room is made again.
+    fresh: Vec<Timer>,
+    /// For how many more there is room among the fresh ones.
     room: usize,
 }
 
 impl Model for Timers {
+    ghost use Rattle.std.specs.Prelude.{◌++◌};
+    ghost use Rattle.std.specs.Vec.{vec_capacity};
     ghost use Rattle.lvs_timer.specs.Seen.{TimersSeen};
 
     ghost Value = { TimersSeen };
 
-    ghost use Rattle.lvs_timer.specs.Shelves.{timers_in, IsStore};
+    ghost use Rattle.lvs_timer.specs.DueLists.{in_order, IsStore};
 
-    ghost view = { λ t. record { timers = timers_in t.shelves.items; spare = t.room } };
+    ghost view = { λ t. record { timers = in_order (t.due ++ t.fresh.items); spare = t.room } };
 
-    ghost invariant = { λ t. IsStore t.shelves.items t.room };
-}
-
-/// The list of an id.
-fn shelf_of(id: u64) -> usize
-    ensures { result ≡ id % 16 }
-{
-    (id % 16) as usize
+    ghost invariant = { λ t. IsStore t.due t.fresh.items (vec_capacity t.fresh) t.room };
 }
 
 impl Timers {
@@ -50,7 +45,8 @@ impl Timers {
         ensures { IfOk result (λ t. t.timers ≡ []) }
     {
         Ok(Timers {
-            shelves: make_shelves(alloc)?,
+            due: DueList::new(alloc),
+            fresh: Vec::with_capacity(alloc, FRESH)?,
             room: 0,
         })
     }
@@ -65,8 +61,8 @@ impl Timers {
         if self.room > 0 {
             return Ok(());
         }
-        make_room(&mut self.shelves, ROOM)?;
-        self.room = ROOM;
+        settle(&mut self.due, &mut self.fresh)?;
+        self.room = FRESH;
         Ok(())
     }
 
@@ -77,7 +73,7 @@ impl Timers {
         ensures timers { self.new.timers ≡ insert_by (λ (t : Timer). t.id) (record { id = id; deadline = deadline }) self.old.timers }
         ensures spare { self.new.spare + 1 ≡ self.old.spare }
     {
-        self.shelves[shelf_of(id)].put(Timer { id, deadline });
+        self.fresh.push_reserved(Timer { deadline, id });
         self.room -= 1;
     }
 
@@ -87,7 +83,8 @@ impl Timers {
         ensures timers { self.new.timers ≡ without (has_id id) self.old.timers }
         ensures spare { self.new.spare ≡ self.old.spare }
     {
-        self.shelves[shelf_of(id)].take(&Timer { id, deadline });
+        self.due.take(&Timer { deadline, id });
+        self.fresh.retain(|t| t.id != id);
     }
 
     /// The ids whose deadline is at or before `now`, in seconds, rising.
@@ -99,7 +96,8 @@ impl Timers {
         self.due_from::<Brand>(alloc, now, Blank::new(1))
     }
 
-    /// The due ids. A step is one armed id looked at: at most the due ones and one of each list.
+    /// The due ids. A step is one armed id looked at: each due one at
+    /// least, and at most 16 more.
     pub fn due_counted<L: Ledger>(
         &self,
         alloc: Global,
@@ -110,9 +108,12 @@ impl Timers {
         ensures ids { IfOk result (λ ids. ids.items ≡ ids_of (filter (is_due now) self.now.timers)) }
         ensures rising { IfOk result (λ ids. IsStrictlyIncreasing ids.items) }
         ensures steps { steps.new ≤ steps.old + count_by (is_due now) self.now.timers + 16 }
+        ensures counted { IfOk result (λ ids. steps.old + length ids.items ≤ steps.new) }
         ensures listed { AreListed self.now.timers }
     {
-        let mut ids = gather_due(alloc, &self.shelves, now, steps)?;
+        let mut ids = Vec::new(alloc);
+        self.due.list_due(now, &mut ids, steps)?;
+        list_fresh(&self.fresh, now, &mut ids, steps)?;
         ids.sort_unstable();
         Ok(ids)
     }
