@@ -62,7 +62,7 @@ item_by : (b : Bool) (i : SyncItem) → cond b (accept_item i) learnt.OtherId �
 item_by true i is = is
 item_by false i is = absurd cc
 
-accepted_item : (own : Option ℕ) (id : ℕ) (i : SyncItem) → accept own id i ≡ learnt.Accepted → accept_item i ≡ learnt.Accepted
+pub accepted_item : (own : Option ℕ) (id : ℕ) (i : SyncItem) → accept own id i ≡ learnt.Accepted → accept_item i ≡ learnt.Accepted
 accepted_item None id i is = absurd cc
 accepted_item (Some own) id i is = item_by ((own == 0) || (own == id)) i is
 

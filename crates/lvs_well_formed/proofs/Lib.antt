@@ -27,3 +27,7 @@ pub mod Steps
 pub mod Found
 pub mod Leaves
 pub mod PacketLeaves
+pub mod BucketLists
+pub mod Within
+pub mod BucketSteps
+pub mod BucketLooks

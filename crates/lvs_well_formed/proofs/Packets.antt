@@ -78,7 +78,7 @@ least_of P x None e px py is = let same : x ≡ e = cc in subst P same px
 least_of P x (Some y) e px py is = least_choice P (nat_le x.id y.id) x y e px (py y refl) is
 
 -- the least entry is one of the list
-all_least : (P : Entry → Type 0) (es : List Entry) (e : Entry) → AllByRecursion P es → least_by (λ (x : Entry). x.id) es ≡ Some e → P e
+pub all_least : (P : Entry → Type 0) (es : List Entry) (e : Entry) → AllByRecursion P es → least_by (λ (x : Entry). x.id) es ≡ Some e → P e
 all_least P [] e each found = absurd cc
 all_least P (x ∷ es) e each found = least_of P x (least_by (λ (y : Entry). y.id) es) e each.0 (λ y is. all_least P es y each.1 is) found
 
