@@ -203,7 +203,7 @@ impl ScriptReader {
         if !is_readable(line) {
             return Err(Stop::Refused(ScriptCause::UnknownLine));
         }
-        self.take_words(&words)
+        self.take_line_words(&words)
     }
 
     /// The script of all lines.
