@@ -1,29 +1,11 @@
 //! The program: the standard streams and the exit status round the top call.
 #![tactic(auto)]
 
-use lvs_outside::{OpenGate, ReadSource, WriteSink};
-use lvs_run::{fault_line, serve};
+use lvs_outside::OpenGate;
+use lvs_run::{exit_code, fault_line, serve_streams};
 use lvs_types::Status;
 use std::process::ExitCode;
 use std::{env, io};
-
-/// The exit status of words that can't be read as text.
-const BAD_WORDS: u8 = 2;
-
-/// The exit status of a status.
-fn code_of(status: &Status) -> u8 {
-    match status {
-        Status::Finished => 0,
-        Status::ScriptRefused { .. } => 1,
-        Status::WordsRefused { .. } => BAD_WORDS,
-        Status::ReadFault => 3,
-        Status::WriteFault => 4,
-        Status::NoMemory => 5,
-        Status::ScriptTooLong => 6,
-        Status::Illegal(_) => 7,
-        Status::CaptureRefused { .. } => 8,
-    }
-}
 
 /// The program's words without its name.
 fn words(rt: &HostRuntime) -> io::Result<Vec<String>> {
@@ -47,7 +29,7 @@ fn tell(rt: &HostRuntime, status: &Status) {
 /// Tells how the run ended, and gives its exit status.
 fn end(rt: &HostRuntime, status: &Status) -> ExitCode {
     tell(rt, status);
-    ExitCode::from(code_of(status))
+    ExitCode::from(exit_code(status))
 }
 
 /// Ends a run whose words aren't text, or for whose words there was no memory.
@@ -55,8 +37,9 @@ fn end_without_words(rt: &HostRuntime, error: &io::Error) -> ExitCode {
     if error.kind() == io::ErrorKind::OutOfMemory {
         return end(rt, &Status::NoMemory);
     }
+    // Which word isn't text the system doesn't say, so the line has no number.
     let _ = eprintln!(rt; "ipvsd: words refused");
-    ExitCode::from(BAD_WORDS)
+    ExitCode::from(exit_code(&Status::WordsRefused { at: 0 }))
 }
 
 fn main(rt: HostRuntime) -> ExitCode {
@@ -64,8 +47,13 @@ fn main(rt: HostRuntime) -> ExitCode {
         Ok(words) => words,
         Err(error) => return end_without_words(&rt, &error),
     };
-    let mut source = ReadSource::new(rt.reader());
-    let mut sink = WriteSink::new(io::writer(&rt));
-    let done = serve(&rt, rt.alloc(), &words, &mut source, &mut sink, &OpenGate);
-    end(&rt, &done.status)
+    let served = serve_streams(
+        &rt,
+        rt.alloc(),
+        &words,
+        rt.reader(),
+        io::writer(&rt),
+        &OpenGate,
+    );
+    end(&rt, &served.done.status)
 }

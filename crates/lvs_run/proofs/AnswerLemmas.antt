@@ -14,7 +14,7 @@ use Rattle.lvs_outside.specs.Faults.{Rose}
 use Rattle.lvs_run.specs.SerialBooks.{AreSerialBooks, AreBooksOfSource, ArePlayed}
 use Rattle.lvs_run.proofs.LegalLemmas.{legal_books, serial_books}
 use Rattle.lvs_run.specs.Answers.{IsAnswer, IsEnd, IsOfSerial}
-use Rattle.lvs_run.specs.Rounds.{IsBeforeScript}
+use Rattle.lvs_run.specs.Stages.{IsBeforeScript}
 
 -- how rounds that were played end
 pub ends : (script : Script) (books : List RoundBook) (s : Status) (rounds : List Round) → rounds ≡ script.rounds → (s ≡ status.Finished → length books ≡ length rounds) → (s ≢ status.Finished → s ≢ status.WriteFault → s ≢ status.NoMemory → ⊥) → IsEnd script books s

@@ -3,11 +3,11 @@ use Rattle.std.proofs.Common.{◌≡◌, ℕ, ◌+◌, ◌≤◌, List, [], ◌�
 use Rattle.std.proofs.Math.Seq.{take-length}
 use Rattle.std.proofs.lemmas.List.{take-append-le}
 use Rattle.std.specs.Io.KnownBytes.{Appends}
-use Rattle.lvs_outside.specs.Faults.{AppendsFront}
+use Rattle.lvs_outside.specs.Faults.{AppendsPrefix, AppendsProperPrefix}
 use Rattle.lvs_outside.proofs.Known.{appends_more}
 use Rattle.lvs_types.specs.declared.book.RoundBook.{RoundBook}
 use Rattle.lvs_model.specs.Report.{round_text, books_text}
-use Rattle.lvs_run.specs.Written.{AppendsPart, AppendsAllButLast}
+use Rattle.lvs_run.specs.Written.{AppendsAllButLast}
 
 le_self : (n : ℕ) → n ≤ n
 le_self n = omega arith
@@ -20,18 +20,18 @@ books_push (b ∷ books) book = ap (λ (t : List ℕ). round_text b ++ t) (books
 pub appends_book : (old mid new : Option (List ℕ)) (books : List RoundBook) (book : RoundBook) → Appends old mid (books_text books) → Appends mid new (round_text book) → Appends old new (books_text (books ++ book ∷ []))
 appends_book old mid new books book before now = rw (books_push books book) (appends_more old mid new (books_text books) (round_text book) before now)
 
--- a front of the text of one more book
-pub all_but_last : (old mid new : Option (List ℕ)) (books : List RoundBook) (book : RoundBook) → Appends old mid (books_text books) → AppendsFront mid new (round_text book) → AppendsAllButLast old new (books ++ book ∷ [])
+-- a prefix of the text of one more book
+pub all_but_last : (old mid new : Option (List ℕ)) (books : List RoundBook) (book : RoundBook) → Appends old mid (books_text books) → AppendsProperPrefix mid new (round_text book) → AppendsAllButLast old new (books ++ book ∷ [])
 all_but_last old mid new books book before now =
     (books, book, now.0, refl, now.1, appends_more old mid new (books_text books) (take now.0 (round_text book)) before now.2)
 
-pub part_whole : (old new : Option (List ℕ)) (text : List ℕ) → Appends old new text → AppendsPart old new text
+pub part_whole : (old new : Option (List ℕ)) (text : List ℕ) → Appends old new text → AppendsPrefix old new text
 part_whole old new text all =
     let here : take (length text) text ≡ text = take-length text in
     (length text, omega arith, subst (λ (t : List ℕ). Appends old new t) (sym here) all)
 
 -- nothing of one more book
-pub part_without_last : (old mid new : Option (List ℕ)) (books : List RoundBook) (book : RoundBook) → Appends old mid (books_text books) → new ≡ mid → AppendsPart old new (books_text (books ++ book ∷ []))
+pub part_without_last : (old mid new : Option (List ℕ)) (books : List RoundBook) (book : RoundBook) → Appends old mid (books_text books) → new ≡ mid → AppendsPrefix old new (books_text (books ++ book ∷ []))
 part_without_last old mid new books book before same =
     let text : List ℕ = books_text books in
     let here : take (length text) (books_text (books ++ book ∷ [])) ≡ text =

@@ -4,7 +4,7 @@ use Rattle.std.specs.List.{list_any, filter_map}
 use Rattle.lvs_types.specs.declared.script.ScriptLine.{ScriptLine}
 use Rattle.lvs_types.specs.declared.script.ScriptLine.TheVariants as line
 use Rattle.lvs_model.specs.Plans.{shown_by}
-use Rattle.lvs_run.specs.Listed.{is_listing}
+use Rattle.lvs_run.specs.Listings.{is_listing}
 
 pub unlisted : (lines : List ScriptLine) → list_any is_listing lines ≡ false → filter_map shown_by lines ≡ []
 unlisted [] none = refl

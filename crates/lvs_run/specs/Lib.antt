@@ -1,8 +1,9 @@
 pub mod Words
 pub mod Written
-pub mod Rounds
+pub mod Stages
 pub mod Seen
 pub mod SerialBooks
 pub mod Limits
 pub mod Answers
-pub mod Listed
+pub mod Listings
+pub mod ExitCodes

@@ -1,15 +1,11 @@
 -- What is written of the report of some rounds.
-use Rattle.std.specs.Prelude.{◌≡◌, ℕ, ◌<◌, ◌≤◌, List, [], ◌∷◌, ◌++◌, length, take, Option}
+use Rattle.std.specs.Prelude.{◌≡◌, ℕ, ◌<◌, List, [], ◌∷◌, ◌++◌, length, take, Option}
 use Rattle.std.specs.Io.KnownBytes.{Appends}
-use Rattle.lvs_outside.specs.Faults.{Rose, AppendsFront}
+use Rattle.lvs_outside.specs.Faults.{Rose, AppendsProperPrefix}
 use Rattle.lvs_types.specs.declared.book.RoundBook.{RoundBook}
 use Rattle.lvs_model.specs.Report.{round_text, books_text}
-use Rattle.lvs_run.specs.declared.written.Wrote.{Wrote}
-use Rattle.lvs_run.specs.declared.written.Wrote.TheVariants as wrote
-
--- known bytes grew by a front of these, or by all
-abbrev pub AppendsPart : Option (List ℕ) → Option (List ℕ) → List ℕ → Type 0
-AppendsPart old new text = (n : ℕ) × (n ≤ length text) × Appends old new (take n text)
+use Rattle.lvs_run.specs.declared.report.Wrote.{Wrote}
+use Rattle.lvs_run.specs.declared.report.Wrote.TheVariants as wrote
 
 -- known bytes grew by the whole text of every book but the last, and not by the whole text of the last
 abbrev pub AppendsAllButLast : Option (List ℕ) → Option (List ℕ) → List RoundBook → Type 0
@@ -19,11 +15,11 @@ AppendsAllButLast old new books =
 -- what one round has written
 abbrev pub IsWrote : Option (List ℕ) → Option (List ℕ) → RoundBook → Wrote → Type 0
 IsWrote old new book wrote.All = Appends old new (round_text book)
-IsWrote old new book wrote.Front = AppendsFront old new (round_text book)
+IsWrote old new book wrote.Prefix = AppendsProperPrefix old new (round_text book)
 IsWrote old new book wrote.NoMemory = new ≡ old
 
 -- the sink's count rose where it failed, and else is as before
 abbrev pub HasSinkCause : ℕ → ℕ → Wrote → Type 0
 HasSinkCause before now wrote.All = now ≡ before
-HasSinkCause before now wrote.Front = Rose before now
+HasSinkCause before now wrote.Prefix = Rose before now
 HasSinkCause before now wrote.NoMemory = now ≡ before

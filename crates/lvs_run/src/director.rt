@@ -5,7 +5,7 @@ ghost use Rattle.lvs_model.specs.Step.{step, IsInRange};
 ghost use Rattle.lvs_model.specs.Plans.{listings_of};
 ghost use Rattle.lvs_model.specs.Listings.{shown_of};
 
-use crate::listed::{has_listing, show_lines};
+use crate::listings::{has_listing, show_lines};
 use lvs_flat::Flat;
 use lvs_types::{Addr, Item, Listed, NoMemory, Reply, Round, ShownText};
 use std::alloc::Global;

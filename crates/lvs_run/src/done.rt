@@ -7,6 +7,7 @@ use std::alloc::Global;
 /// What a call did.
 #[derive(Debug, Drop)]
 pub struct Done {
+    /// How it ended.
     pub status: Status,
     /// The books of the rounds that were completed, in order.
     pub rounds: Vec<RoundBook>,

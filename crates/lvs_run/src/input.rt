@@ -1,12 +1,13 @@
 //! The words and the input, read before anything else.
 ghost use Rattle.std.specs.Prelude.{◌≡◌, ◌≢◌, ◌≤◌, ◌+◌, ◌↔◌, ℕ, List, map, length, Some, IfOk, IfErr, string_bytes};
 ghost use Rattle.std.specs.Io.KnownBytes.{Consumes, IsAtEnd};
+ghost use Rattle.lvs_types.specs.Limits.{max_input};
 ghost use Rattle.lvs_outside.specs.Faults.{Rose};
 ghost use Rattle.lvs_run.specs.Words.{refused_word};
-ghost use Rattle.lvs_run.specs.Rounds.{IsBeforeReport};
+ghost use Rattle.lvs_run.specs.Stages.{IsBeforeReport};
 
 use crate::program_words::refused_at;
-use lvs_outside::{MAX_INPUT, ReadStop, Source, read_all};
+use lvs_outside::{ReadStop, Source, read_all};
 use lvs_types::Status;
 use std::alloc::Global;
 
@@ -20,11 +21,12 @@ pub(crate) fn read_input<S: Source>(
     ensures words { (at : ℕ) → (result ≡ Err (Status.WordsRefused at)) ↔ (refused_word (map string_bytes words.now) ≡ Some at) }
     ensures whole { IfOk result (λ bytes. Consumes (S.left source.old) (S.left source.new) bytes.items) }
     ensures end { IfOk result (λ bytes. IsAtEnd (S.left source.new)) }
-    ensures fits { IfOk result (λ bytes. length bytes.items ≤ MAX_INPUT) }
+    ensures fits { IfOk result (λ bytes. length bytes.items ≤ max_input) }
     ensures fault { result ≡ Err Status.ReadFault → Rose (S.faults source.old) (S.faults source.new) }
     ensures kept { result ≢ Err Status.ReadFault → S.faults source.new ≡ S.faults source.old }
-    ensures too_long { result ≡ Err Status.ScriptTooLong → (bytes : List ℕ) × (length bytes ≡ MAX_INPUT + 1) × Consumes (S.left source.old) (S.left source.new) bytes }
-    ensures short { result ≢ Err Status.ScriptTooLong → result ≢ Err Status.NoMemory → (bytes : List ℕ) × (length bytes ≤ MAX_INPUT) × Consumes (S.left source.old) (S.left source.new) bytes }
+    ensures too_long { result ≡ Err Status.ScriptTooLong → (bytes : List ℕ) × (length bytes ≡ max_input + 1) × Consumes (S.left source.old) (S.left source.new) bytes }
+    ensures short { result ≢ Err Status.ScriptTooLong → result ≢ Err Status.NoMemory → (bytes : List ℕ) × (length bytes ≤ max_input) × Consumes (S.left source.old) (S.left source.new) bytes }
+    ensures limit { (bytes : List ℕ) × (length bytes ≤ max_input + 1) × Consumes (S.left source.old) (S.left source.new) bytes }
     ensures before { IfErr result IsBeforeReport }
 {
     if let Some(at) = refused_at(words) {

@@ -3,20 +3,24 @@
 
 mod director;
 mod done;
+mod exit;
 mod fault;
 mod input;
-mod listed;
-mod played;
+mod listings;
+mod program;
 mod program_words;
+mod report;
 mod round;
+mod rounds;
 mod serial;
-mod top;
-mod written;
+mod streams;
 
 pub use done::Done;
+pub use exit::exit_code;
 pub use fault::fault_line;
+pub use program::serve;
 pub use serial::serve_serial;
-pub use top::serve;
+pub use streams::{Served, serve_streams};
 
 #[cfg(test)]
 mod fault_tests;

@@ -1,8 +1,9 @@
 //! Scripts through the top call.
-use crate::{serve, serve_serial};
+use crate::{exit_code, serve, serve_serial, serve_streams};
 use lvs_outside::{MemSink, MemSource, OpenGate};
 use lvs_types::{NoMemory, ScriptCause, Status};
 use std::alloc::Global;
+use std::io::Cursor;
 use std::test::Fail;
 
 /// One service by turns with two servers, and three packets.
@@ -132,5 +133,24 @@ fn the_top_call_does_serial(rt: HostRuntime) -> Result<(), Fail> {
     let done = serve(&rt, alloc, &words, &mut source, &mut sink, &OpenGate);
     assert_eq!(rt; done.status, Status::Finished);
     assert_eq!(rt; sink.bytes(), REPORT);
+    Ok(())
+}
+
+#[test]
+fn a_reader_and_a_writer_of_std_serve(rt: HostRuntime) -> Result<(), Fail> {
+    let alloc = rt.alloc();
+    let mut words = Vec::new(alloc);
+    words.push(String::from_str(alloc, "serial")?)?;
+    let served = serve_streams(
+        &rt,
+        alloc,
+        &words,
+        Cursor::new(SCRIPT),
+        Vec::new(alloc),
+        &OpenGate,
+    );
+    assert_eq!(rt; served.done.status, Status::Finished);
+    assert_eq!(rt; exit_code(&served.done.status), 0);
+    assert_eq!(rt; served.sink.into_inner().as_slice(), REPORT);
     Ok(())
 }

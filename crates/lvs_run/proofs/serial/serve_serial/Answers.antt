@@ -1,6 +1,6 @@
 use Rattle.std.proofs.Common.{ℕ, List, Err, inr, map, sym, ◌∙◌, ap, subst}
 use Rattle.std.specs.Prelude.{string_bytes}
-use Rattle.lvs_outside.specs.declared.reading.TheConstants.{MAX_INPUT}
+use Rattle.lvs_types.specs.Limits.{max_input}
 use Rattle.lvs_model.specs.Scripts.{script_of}
 use Rattle.lvs_run.specs.Words.{refused_word}
 use Rattle.lvs_run.specs.Answers.{IsAnswer, IsOfSerial}
@@ -47,11 +47,11 @@ returns-in-Err-clause-words g c = λ at. (
 
 pub returns-in-Err-clause-complete : goal.returns-in-Err-clause-complete
 returns-in-Err-clause-complete g c = λ bytes script good told short accepted calm quiet.
-    inr (c.without_rounds.ensures.status ∙ before_is_memory MAX_INPUT c.in-Err.status (g.S.Source.left c.args.source.now) (g.S.Source.left c.read_input.new.source) bytes (refused_word (map string_bytes c.args.words.now)) (g.S.Source.faults c.args.source.now) (g.S.Source.faults c.read_input.new.source) c.in-Err.ensures.before.only (λ at is. (c.in-Err.ensures.words at).0 (ap (λ (s : Status). Err s) is)) (λ is. c.in-Err.ensures.fault (ap (λ (s : Status). Err s) is)) (λ is. c.in-Err.ensures.too_long (ap (λ (s : Status). Err s) is)) good told short calm)
+    inr (c.without_rounds.ensures.status ∙ before_is_memory max_input c.in-Err.status (g.S.Source.left c.args.source.now) (g.S.Source.left c.read_input.new.source) bytes (refused_word (map string_bytes c.args.words.now)) (g.S.Source.faults c.args.source.now) (g.S.Source.faults c.read_input.new.source) c.in-Err.ensures.before.only (λ at is. (c.in-Err.ensures.words at).0 (ap (λ (s : Status). Err s) is)) (λ is. c.in-Err.ensures.fault (ap (λ (s : Status). Err s) is)) (λ is. c.in-Err.ensures.too_long (ap (λ (s : Status). Err s) is)) good told short calm)
 
 pub returns-in-Err-clause-refused_too : goal.returns-in-Err-clause-refused_too
 returns-in-Err-clause-refused_too g c = λ bytes bad good told short refused calm.
-    inr (c.without_rounds.ensures.status ∙ before_is_memory MAX_INPUT c.in-Err.status (g.S.Source.left c.args.source.now) (g.S.Source.left c.read_input.new.source) bytes (refused_word (map string_bytes c.args.words.now)) (g.S.Source.faults c.args.source.now) (g.S.Source.faults c.read_input.new.source) c.in-Err.ensures.before.only (λ at is. (c.in-Err.ensures.words at).0 (ap (λ (s : Status). Err s) is)) (λ is. c.in-Err.ensures.fault (ap (λ (s : Status). Err s) is)) (λ is. c.in-Err.ensures.too_long (ap (λ (s : Status). Err s) is)) good told short calm)
+    inr (c.without_rounds.ensures.status ∙ before_is_memory max_input c.in-Err.status (g.S.Source.left c.args.source.now) (g.S.Source.left c.read_input.new.source) bytes (refused_word (map string_bytes c.args.words.now)) (g.S.Source.faults c.args.source.now) (g.S.Source.faults c.read_input.new.source) c.in-Err.ensures.before.only (λ at is. (c.in-Err.ensures.words at).0 (ap (λ (s : Status). Err s) is)) (λ is. c.in-Err.ensures.fault (ap (λ (s : Status). Err s) is)) (λ is. c.in-Err.ensures.too_long (ap (λ (s : Status). Err s) is)) good told short calm)
 
 pub returns-in-Err-clause-only : goal.returns-in-Err-clause-only
 returns-in-Err-clause-only g c = subst (λ (s : Status). IsOfSerial s) (sym c.without_rounds.ensures.status) (of_serial_before c.in-Err.status c.in-Err.ensures.before.only)

@@ -1,7 +1,7 @@
 use Rattle.std.proofs.Common.{◌≡◌, false, sym, ◌∙◌, ap}
 use Rattle.std.specs.List.{list_any}
 use Rattle.lvs_model.specs.Listings.{shown_of}
-use Rattle.lvs_run.specs.Listed.{is_listing}
+use Rattle.lvs_run.specs.Listings.{is_listing}
 use Rattle.lvs_run.proofs.Unlisted.{unlisted}
 use Rattle.lvs_run.proofs.director.Director.show.Goals as goal
 

@@ -1,7 +1,8 @@
 //! The call that the program makes.
 ghost use Rattle.std.specs.Prelude.{◌≡◌, ◌≢◌, ◌≤◌, ◌+◌, ◌↔◌, ◌⊎◌, ℕ, List, [], map, length, Some, None, Ok, Err, string_bytes};
 ghost use Rattle.std.specs.Io.KnownBytes.{Appends, Consumes, IsAtEnd};
-ghost use Rattle.lvs_outside.specs.Faults.{Rose};
+ghost use Rattle.lvs_types.specs.Limits.{max_input};
+ghost use Rattle.lvs_outside.specs.Faults.{Rose, AppendsPrefix};
 ghost use Rattle.lvs_types.specs.declared.script.Script.{Script};
 ghost use Rattle.lvs_types.specs.declared.script.ScriptCause.{ScriptCause};
 ghost use Rattle.lvs_model.specs.declared.script.BadLine.{BadLine};
@@ -10,11 +11,11 @@ ghost use Rattle.lvs_model.specs.Scripts.{script_of};
 ghost use Rattle.lvs_run.specs.Words.{refused_word};
 ghost use Rattle.lvs_run.specs.SerialBooks.{AreBooksOfSource};
 ghost use Rattle.lvs_run.specs.Answers.{IsOfSerial};
-ghost use Rattle.lvs_run.specs.Written.{AppendsAllButLast, AppendsPart};
+ghost use Rattle.lvs_run.specs.Written.{AppendsAllButLast};
 
 use crate::Done;
 use crate::serial::serve_serial;
-use lvs_outside::{Gate, MAX_INPUT, Sink, Source};
+use lvs_outside::{Gate, Sink, Source};
 use lvs_types::Status;
 use std::alloc::Global;
 use std::sync::Wait;
@@ -33,15 +34,16 @@ pub fn serve<R: Threads + Wait + Sync, S: Source, K: Sink, G: Gate + Sync>(
     ensures headline { result.status ≡ Status.Finished → (bytes : List ℕ) × (script : Script) × AreBooksOfSource (S.left source.old) (S.left source.new) bytes script result.rounds.items × (length result.rounds.items ≡ length script.rounds) × Appends (K.written sink.old) (K.written sink.new) (books_text result.rounds.items) }
     ensures first { result.rounds.items ≢ [] → (bytes : List ℕ) × (script : Script) × AreBooksOfSource (S.left source.old) (S.left source.new) bytes script result.rounds.items }
     ensures script_refused { (line : ℕ) (cause : ScriptCause) → result.status ≡ Status.ScriptRefused line cause → (bytes : List ℕ) × Consumes (S.left source.old) (S.left source.new) bytes × IsAtEnd (S.left source.new) × (script_of bytes ≡ Err (record { line = line; cause = cause })) }
-    ensures complete { (bytes : List ℕ) (script : Script) → refused_word (map string_bytes words.now) ≡ None → S.left source.old ≡ Some bytes → length bytes ≤ MAX_INPUT → script_of bytes ≡ Ok script → (Rose (S.faults source.old) (S.faults source.new) → ⊥) → (Rose (K.faults sink.old) (K.faults sink.new) → ⊥) → (result.status ≡ Status.Finished) ⊎ (result.status ≡ Status.NoMemory) }
-    ensures refused_too { (bytes : List ℕ) (bad : BadLine) → refused_word (map string_bytes words.now) ≡ None → S.left source.old ≡ Some bytes → length bytes ≤ MAX_INPUT → script_of bytes ≡ Err bad → (Rose (S.faults source.old) (S.faults source.new) → ⊥) → (result.status ≡ Status.ScriptRefused bad.line bad.cause) ⊎ (result.status ≡ Status.NoMemory) }
+    ensures complete { (bytes : List ℕ) (script : Script) → refused_word (map string_bytes words.now) ≡ None → S.left source.old ≡ Some bytes → length bytes ≤ max_input → script_of bytes ≡ Ok script → (Rose (S.faults source.old) (S.faults source.new) → ⊥) → (Rose (K.faults sink.old) (K.faults sink.new) → ⊥) → (result.status ≡ Status.Finished) ⊎ (result.status ≡ Status.NoMemory) }
+    ensures refused_too { (bytes : List ℕ) (bad : BadLine) → refused_word (map string_bytes words.now) ≡ None → S.left source.old ≡ Some bytes → length bytes ≤ max_input → script_of bytes ≡ Err bad → (Rose (S.faults source.old) (S.faults source.new) → ⊥) → (result.status ≡ Status.ScriptRefused bad.line bad.cause) ⊎ (result.status ≡ Status.NoMemory) }
     ensures only { IsOfSerial result.status }
     ensures write_fault { result.status ≡ Status.WriteFault → AppendsAllButLast (K.written sink.old) (K.written sink.new) result.rounds.items }
-    ensures no_memory { result.status ≡ Status.NoMemory → AppendsPart (K.written sink.old) (K.written sink.new) (books_text result.rounds.items) }
+    ensures no_memory { result.status ≡ Status.NoMemory → AppendsPrefix (K.written sink.old) (K.written sink.new) (books_text result.rounds.items) }
     ensures refused { result.status ≢ Status.Finished → result.status ≢ Status.WriteFault → result.status ≢ Status.NoMemory → (K.written sink.new ≡ K.written sink.old) × (result.rounds.items ≡ []) }
     ensures words { (at : ℕ) → (result.status ≡ Status.WordsRefused at) ↔ (refused_word (map string_bytes words.now) ≡ Some at) }
-    ensures too_long { result.status ≡ Status.ScriptTooLong → (bytes : List ℕ) × (length bytes ≡ MAX_INPUT + 1) × Consumes (S.left source.old) (S.left source.new) bytes }
-    ensures short { result.status ≢ Status.ScriptTooLong → result.status ≢ Status.NoMemory → (bytes : List ℕ) × (length bytes ≤ MAX_INPUT) × Consumes (S.left source.old) (S.left source.new) bytes }
+    ensures too_long { result.status ≡ Status.ScriptTooLong → (bytes : List ℕ) × (length bytes ≡ max_input + 1) × Consumes (S.left source.old) (S.left source.new) bytes }
+    ensures short { result.status ≢ Status.ScriptTooLong → result.status ≢ Status.NoMemory → (bytes : List ℕ) × (length bytes ≤ max_input) × Consumes (S.left source.old) (S.left source.new) bytes }
+    ensures limit { (bytes : List ℕ) × (length bytes ≤ max_input + 1) × Consumes (S.left source.old) (S.left source.new) bytes }
     ensures source_rose { result.status ≡ Status.ReadFault → Rose (S.faults source.old) (S.faults source.new) }
     ensures source_kept { result.status ≢ Status.ReadFault → S.faults source.new ≡ S.faults source.old }
     ensures sink_rose { result.status ≡ Status.WriteFault → Rose (K.faults sink.old) (K.faults sink.new) }

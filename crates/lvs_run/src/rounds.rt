@@ -1,13 +1,13 @@
 //! Round after round, each written when it is done.
 ghost use Rattle.std.specs.Prelude.{◌≡◌, ◌≢◌, ◌+◌, ◌≤◌, ◌^◌, [], length, Result, Ok};
 ghost use Rattle.std.specs.Io.KnownBytes.{Appends};
-ghost use Rattle.lvs_outside.specs.Faults.{Rose};
+ghost use Rattle.lvs_outside.specs.Faults.{Rose, AppendsPrefix};
 ghost use Rattle.lvs_types.specs.declared.script.Script.{Script};
 ghost use Rattle.lvs_model.specs.State.{State};
 ghost use Rattle.lvs_model.specs.Report.{books_text};
 ghost use Rattle.lvs_model.specs.Scripts.{script_of};
-ghost use Rattle.lvs_run.specs.Written.{AppendsAllButLast, AppendsPart};
-ghost use Rattle.lvs_run.specs.Rounds.{IsAfterInput};
+ghost use Rattle.lvs_run.specs.Written.{AppendsAllButLast};
+ghost use Rattle.lvs_run.specs.Stages.{IsAfterInput};
 ghost use Rattle.lvs_run.specs.Limits.{AreMoments, IsWithinLimits, steps_in};
 ghost use Rattle.lvs_run.specs.SerialBooks.{ArePlayed};
 ghost use Rattle.lvs_run.specs.Answers.{IsAnswer};
@@ -15,8 +15,8 @@ ghost use Rattle.lvs_run.specs.Answers.{IsAnswer};
 use crate::Done;
 use crate::director::Director;
 use crate::done::without_rounds;
+use crate::report::{Wrote, write_round};
 use crate::round::play_round;
-use crate::written::{Wrote, write_round};
 use lvs_outside::Sink;
 use lvs_script::{ScriptRefused, read_script};
 use lvs_types::{Round, Script, Status};
@@ -35,7 +35,7 @@ fn play_rounds<K: Sink>(
     ensures all { result.status ≡ Status.Finished → length result.rounds.items ≡ length rounds.now }
     ensures finished { result.status ≡ Status.Finished → Appends (K.written sink.old) (K.written sink.new) (books_text result.rounds.items) }
     ensures write_fault { result.status ≡ Status.WriteFault → AppendsAllButLast (K.written sink.old) (K.written sink.new) result.rounds.items }
-    ensures no_memory { result.status ≡ Status.NoMemory → AppendsPart (K.written sink.old) (K.written sink.new) (books_text result.rounds.items) }
+    ensures no_memory { result.status ≡ Status.NoMemory → AppendsPrefix (K.written sink.old) (K.written sink.new) (books_text result.rounds.items) }
     ensures rose { result.status ≡ Status.WriteFault → Rose (K.faults sink.old) (K.faults sink.new) }
     ensures kept { result.status ≢ Status.WriteFault → K.faults sink.new ≡ K.faults sink.old }
     ensures only { result.status ≢ Status.Finished → result.status ≢ Status.WriteFault → result.status ≢ Status.NoMemory → ⊥ }
@@ -59,7 +59,7 @@ fn play_rounds<K: Sink>(
         books.push_reserved(book);
         match wrote {
             Wrote::All => {}
-            Wrote::Front => return Done {
+            Wrote::Prefix => return Done {
                 status: Status::WriteFault,
                 rounds: books,
             },
@@ -80,7 +80,7 @@ pub(crate) fn play_bytes<K: Sink>(alloc: Global, bytes: &[u8], sink: &mut K) -> 
     ensures answer { IsAnswer (script_of bytes.now) result.status result.rounds.items }
     ensures finished { result.status ≡ Status.Finished → Appends (K.written sink.old) (K.written sink.new) (books_text result.rounds.items) }
     ensures write_fault { result.status ≡ Status.WriteFault → AppendsAllButLast (K.written sink.old) (K.written sink.new) result.rounds.items }
-    ensures no_memory { result.status ≡ Status.NoMemory → AppendsPart (K.written sink.old) (K.written sink.new) (books_text result.rounds.items) }
+    ensures no_memory { result.status ≡ Status.NoMemory → AppendsPrefix (K.written sink.old) (K.written sink.new) (books_text result.rounds.items) }
     ensures refused { result.status ≢ Status.Finished → result.status ≢ Status.WriteFault → result.status ≢ Status.NoMemory → (K.written sink.new ≡ K.written sink.old) × (result.rounds.items ≡ []) }
     ensures rose { result.status ≡ Status.WriteFault → Rose (K.faults sink.old) (K.faults sink.new) }
     ensures kept { result.status ≢ Status.WriteFault → K.faults sink.new ≡ K.faults sink.old }
@@ -101,7 +101,7 @@ fn play_script<K: Sink>(alloc: Global, script: &Script, sink: &mut K) -> Done
     ensures answer { IsAnswer (Ok script.now) result.status result.rounds.items }
     ensures finished { result.status ≡ Status.Finished → Appends (K.written sink.old) (K.written sink.new) (books_text result.rounds.items) }
     ensures write_fault { result.status ≡ Status.WriteFault → AppendsAllButLast (K.written sink.old) (K.written sink.new) result.rounds.items }
-    ensures no_memory { result.status ≡ Status.NoMemory → AppendsPart (K.written sink.old) (K.written sink.new) (books_text result.rounds.items) }
+    ensures no_memory { result.status ≡ Status.NoMemory → AppendsPrefix (K.written sink.old) (K.written sink.new) (books_text result.rounds.items) }
     ensures rose { result.status ≡ Status.WriteFault → Rose (K.faults sink.old) (K.faults sink.new) }
     ensures kept { result.status ≢ Status.WriteFault → K.faults sink.new ≡ K.faults sink.old }
     ensures only { result.status ≢ Status.Finished → result.status ≢ Status.WriteFault → result.status ≢ Status.NoMemory → ⊥ }

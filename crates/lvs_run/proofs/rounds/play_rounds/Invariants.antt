@@ -3,7 +3,7 @@ use Rattle.std.specs.Io.KnownBytes.{Appends}
 use Rattle.lvs_model.specs.Report.{books_text}
 use Rattle.lvs_run.specs.Limits.{AreMoments, steps_in}
 use Rattle.lvs_run.specs.SerialBooks.{ArePlayed}
-use Rattle.lvs_run.proofs.played.play_rounds.Given as goal
+use Rattle.lvs_run.proofs.rounds.play_rounds.Given as goal
 
 abbrev pub invariant-loop-round : goal.invariant-loop-round
 invariant-loop-round g l = record {

@@ -1,7 +1,7 @@
 use Rattle.std.proofs.Common.{arith}
 use Rattle.lvs_run.proofs.AnswerLemmas.{ends, serial_of}
 use Rattle.lvs_run.proofs.Items.{few_steps}
-use Rattle.lvs_run.proofs.played.play_script.Goals as goal
+use Rattle.lvs_run.proofs.rounds.play_script.Goals as goal
 
 pub play_rounds-requires-clause-young : goal.play_rounds-requires-clause-young
 play_rounds-requires-clause-young g c = rw c.as_slice.ensures (omega (arith, c.in-Ok.ensures.steps, few_steps c.args.script.now.rounds c.requires.within))

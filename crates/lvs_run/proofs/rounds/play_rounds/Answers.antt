@@ -4,7 +4,7 @@ use Rattle.lvs_model.specs.Report.{books_text}
 use Rattle.lvs_run.specs.Limits.{AreMoments, steps_in}
 use Rattle.lvs_run.proofs.Books.{all_but_last, appends_book, part_whole, part_without_last}
 use Rattle.lvs_run.proofs.Runs.{next_round, played_on}
-use Rattle.lvs_run.proofs.played.play_rounds.Goals as goal
+use Rattle.lvs_run.proofs.rounds.play_rounds.Goals as goal
 
 pub returns-then-is_err-clause-played : goal.returns-then-is_err-clause-played
 returns-then-is_err-clause-played g c = (c.loop-round.director.state, rw c.reserve.ensures.items c.loop-round.invariant.played)
@@ -20,12 +20,12 @@ pub returns-in_default-clause-no_memory : goal.returns-in_default-clause-no_memo
 returns-in_default-clause-no_memory g c =
     rw c.reserve.ensures.items (λ _. part_whole (g.K.Sink.written c.args.sink.now) (g.K.Sink.written c.loop-round.sink) (books_text c.loop-round.books.items) c.loop-round.invariant.written)
 
-pub returns-in-Front-clause-played : goal.returns-in-Front-clause-played
-returns-in-Front-clause-played g c = (c.play_round.new.director.state, played_on c.args.director.now.state c.args.rounds.now c.loop-round.books.items c.push_reserved.new.self.items c.loop-round.round-index c.len.result c.round-item.result c.in-Ok.book c.loop-round.director.state c.play_round.new.director.state c.loop-round.invariant.played c.loop-round.invariant.count (next_round c.args.rounds.now c.loop-round.round-index c.round-item.result c.loop-round-test.true c.round-item.is) (omega (arith, c.len.ensures, c.reserve.new.self.ok.0, ap length c.reserve.ensures.items, c.loop-round.invariant.count)) (c.push_reserved.ensures.items ∙ ap (λ (l : List RoundBook). l ++ c.in-Ok.book ∷ []) c.reserve.ensures.items) c.in-Ok.ensures.book)
+pub returns-in-Prefix-clause-played : goal.returns-in-Prefix-clause-played
+returns-in-Prefix-clause-played g c = (c.play_round.new.director.state, played_on c.args.director.now.state c.args.rounds.now c.loop-round.books.items c.push_reserved.new.self.items c.loop-round.round-index c.len.result c.round-item.result c.in-Ok.book c.loop-round.director.state c.play_round.new.director.state c.loop-round.invariant.played c.loop-round.invariant.count (next_round c.args.rounds.now c.loop-round.round-index c.round-item.result c.loop-round-test.true c.round-item.is) (omega (arith, c.len.ensures, c.reserve.new.self.ok.0, ap length c.reserve.ensures.items, c.loop-round.invariant.count)) (c.push_reserved.ensures.items ∙ ap (λ (l : List RoundBook). l ++ c.in-Ok.book ∷ []) c.reserve.ensures.items) c.in-Ok.ensures.book)
 
-pub returns-in-Front-clause-write_fault : goal.returns-in-Front-clause-write_fault
-returns-in-Front-clause-write_fault g c =
-    rw (c.push_reserved.ensures.items, c.reserve.ensures.items) (λ _. all_but_last (g.K.Sink.written c.args.sink.now) (g.K.Sink.written c.loop-round.sink) (g.K.Sink.written c.write_round-wrote.new.sink) c.loop-round.books.items c.in-Ok.book c.loop-round.invariant.written c.in-Front.ensures.text)
+pub returns-in-Prefix-clause-write_fault : goal.returns-in-Prefix-clause-write_fault
+returns-in-Prefix-clause-write_fault g c =
+    rw (c.push_reserved.ensures.items, c.reserve.ensures.items) (λ _. all_but_last (g.K.Sink.written c.args.sink.now) (g.K.Sink.written c.loop-round.sink) (g.K.Sink.written c.write_round-wrote.new.sink) c.loop-round.books.items c.in-Ok.book c.loop-round.invariant.written c.in-Prefix.ensures.text)
 
 pub returns-in-NoMemory-clause-played : goal.returns-in-NoMemory-clause-played
 returns-in-NoMemory-clause-played g c = (c.play_round.new.director.state, played_on c.args.director.now.state c.args.rounds.now c.loop-round.books.items c.push_reserved.new.self.items c.loop-round.round-index c.len.result c.round-item.result c.in-Ok.book c.loop-round.director.state c.play_round.new.director.state c.loop-round.invariant.played c.loop-round.invariant.count (next_round c.args.rounds.now c.loop-round.round-index c.round-item.result c.loop-round-test.true c.round-item.is) (omega (arith, c.len.ensures, c.reserve.new.self.ok.0, ap length c.reserve.ensures.items, c.loop-round.invariant.count)) (c.push_reserved.ensures.items ∙ ap (λ (l : List RoundBook). l ++ c.in-Ok.book ∷ []) c.reserve.ensures.items) c.in-Ok.ensures.book)

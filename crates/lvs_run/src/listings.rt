@@ -3,7 +3,7 @@ ghost use Rattle.std.specs.Prelude.{◌≡◌, IfOk};
 ghost use Rattle.std.specs.List.{list_any, filter_map};
 ghost use Rattle.lvs_model.specs.Plans.{shown_by};
 ghost use Rattle.lvs_model.specs.Listings.{text_of};
-ghost use Rattle.lvs_run.specs.Listed.{is_listing, shown_in, all_shown_in};
+ghost use Rattle.lvs_run.specs.Listings.{is_listing, shown_in, all_shown_in};
 
 use lvs_listing::{list, list_conns, save};
 use lvs_types::{Bytes, NoMemory, Round, ScriptLine, Shown, ShownText, Snapshot};

@@ -13,7 +13,7 @@ pub(crate) enum Wrote {
     /// All of it was written.
     All,
     /// The sink failed, and not all of it was written.
-    Front,
+    Prefix,
     /// There was no memory for it, and nothing was written.
     NoMemory,
 }
@@ -28,6 +28,6 @@ pub(crate) fn write_round<K: Sink>(alloc: Global, book: &RoundBook, sink: &mut K
     };
     match write_all(sink, text.as_slice()) {
         Ok(()) => Wrote::All,
-        Err(_) => Wrote::Front,
+        Err(_) => Wrote::Prefix,
     }
 }
