@@ -1,5 +1,5 @@
 //! One chain: the entries of one chain number.
-ghost use Rattle.std.specs.Prelude.{◌≡◌, ◌<◌, ◌≤◌, ◌+◌, ◌-◌, ◌^◌, ◌∷◌, ◌++◌, [], length, OnOk, OnErr, None};
+ghost use Rattle.std.specs.Prelude.{◌≡◌, ◌<◌, ◌≤◌, ◌+◌, ◌-◌, ◌^◌, ◌∷◌, ◌++◌, [], length, OnOk, OnErr, OnSome, None};
 ghost use Rattle.std.specs.List.{find};
 ghost use Rattle.std.specs.Option.{option_copied};
 ghost use Rattle.lvs_model.specs.Lookups.{has_entry_id, entry_at, reply_entry};
@@ -41,6 +41,7 @@ fn first_of_key<'a, L: Ledger>(
     requires { steps.old < 2 ^ 63 }
     ensures found { option_copied result ≡ entry_at key.now entries.now }
     ensures steps { steps.new ≤ steps.old + length entries.now }
+    ensures counted { OnSome result (steps.old < steps.new) }
     ensures bound { steps.new ≤ steps.old + 2 ^ 58 }
 {
     for e in entries {
@@ -62,6 +63,7 @@ fn least_of_reply<'a, L: Ledger>(
     requires { steps.old < 2 ^ 63 }
     ensures found { option_copied result ≡ reply_entry sides.now.proto sides.now.daddr sides.now.dport sides.now.caddr sides.now.cport entries.now }
     ensures steps { steps.new ≤ steps.old + length entries.now }
+    ensures counted { OnSome result (steps.old < steps.new) }
     ensures bound { steps.new ≤ steps.old + 2 ^ 58 }
 {
     let mut least = None;
@@ -138,6 +140,7 @@ impl Chain {
         requires { steps.old < 2 ^ 63 }
         ensures found { option_copied result ≡ entry_at key.now self.now.entries }
         ensures steps { steps.new ≤ steps.old + length self.now.entries }
+        ensures counted { OnSome result (steps.old < steps.new) }
         ensures bound { steps.new ≤ steps.old + 2 ^ 58 }
     {
         first_of_key(self.as_slice(), key, steps)
@@ -152,6 +155,7 @@ impl Chain {
         requires { steps.old < 2 ^ 63 }
         ensures found { option_copied result ≡ reply_entry sides.now.proto sides.now.daddr sides.now.dport sides.now.caddr sides.now.cport self.now.entries }
         ensures steps { steps.new ≤ steps.old + length self.now.entries }
+        ensures counted { OnSome result (steps.old < steps.new) }
         ensures bound { steps.new ≤ steps.old + 2 ^ 58 }
     {
         least_of_reply(self.as_slice(), sides, steps)

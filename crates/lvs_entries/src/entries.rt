@@ -1,5 +1,5 @@
 //! The entries of one bucket: chains by client, and the chain of each id.
-ghost use Rattle.std.specs.Prelude.{◌≡◌, ◌<◌, ◌≤◌, ◌+◌, ◌^◌, [], count_by, IfOk, OnOk, OnErr, None, IsSomeAnd};
+ghost use Rattle.std.specs.Prelude.{◌≡◌, ◌<◌, ◌≤◌, ◌+◌, ◌^◌, [], count_by, IfOk, OnOk, OnErr, OnSome, None, IsSomeAnd};
 ghost use Rattle.std.specs.List.{find};
 ghost use Rattle.std.specs.Option.{option_copied};
 ghost use Rattle.lvs_model.specs.Lists.{without, insert_by};
@@ -63,6 +63,7 @@ impl Entries {
         ensures ok { OnOk result (0 < self.new.spare) }
         ensures kept { self.old.spare ≤ self.new.spare }
         ensures err { OnErr result (self.new ≡ self.old) }
+        ensures listed { AreListed self.new.entries }
     {
         if self.room > 0 {
             return Ok(());
@@ -79,6 +80,7 @@ impl Entries {
         requires new_id { find (has_entry_id entry.id) self.old.entries ≡ None }
         requires new_key { entry_at entry.key self.old.entries ≡ None }
         ensures entries { self.new.entries ≡ insert_by (λ (e : Entry). e.id) entry self.old.entries }
+        ensures listed { AreListed self.new.entries }
         ensures spare { self.new.spare + 1 ≡ self.old.spare }
     {
         let number = chain_of_key(&entry.key);
@@ -92,6 +94,7 @@ impl Entries {
     pub fn update(&mut self, entry: Entry)
         requires there { IsSomeAnd (find (has_entry_id entry.id) self.old.entries) (λ old. old.key ≡ entry.key) }
         ensures entries { self.new.entries ≡ put_entry entry self.old.entries }
+        ensures listed { AreListed self.new.entries }
         ensures spare { self.new.spare ≡ self.old.spare }
     {
         let number = chain_of_key(&entry.key);
@@ -102,6 +105,7 @@ impl Entries {
     pub fn remove(&mut self, id: u64) -> Option<Entry>
         ensures removed { result ≡ find (has_entry_id id) self.old.entries }
         ensures entries { self.new.entries ≡ without (has_entry_id id) self.old.entries }
+        ensures listed { AreListed self.new.entries }
         ensures spare { self.new.spare ≡ self.old.spare }
     {
         let Some(number) = self.places.remove(&id) else {
@@ -128,11 +132,13 @@ impl Entries {
         self.find_in_from::<Brand>(key, Blank::new(1))
     }
 
-    /// The entry of a key. A step is one entry compared: at most those of the key's chain.
+    /// The entry of a key. A step is one entry compared: at most those of the key's chain,
+    /// and at least the one that is found.
     pub fn find_in_counted<L: Ledger>(&self, key: &Key, steps: &mut Steps<L>) -> Option<&Entry>
         requires { steps.old < 2 ^ 62 }
         ensures found { option_copied result ≡ entry_at key.now self.now.entries }
         ensures steps { steps.new ≤ steps.old + count_by (is_in_chain (key_chain key.now)) self.now.entries }
+        ensures counted { OnSome result (steps.old < steps.new) }
     {
         self.chains[usize::from(chain_of_key(key))].find_key(key, steps)
     }
@@ -169,7 +175,8 @@ impl Entries {
         self.find_out_from::<Brand>(&sides, Blank::new(1))
     }
 
-    /// The entry of a reply. A step is one entry compared: at most those of the tuple's chain.
+    /// The entry of a reply. A step is one entry compared: at most those of the tuple's chain,
+    /// and at least the one that is found.
     pub fn find_out_counted<L: Ledger>(
         &self,
         proto: Proto,
@@ -182,6 +189,7 @@ impl Entries {
         requires { steps.old < 2 ^ 62 }
         ensures found { option_copied result ≡ reply_entry proto daddr dport caddr cport self.now.entries }
         ensures steps { steps.new ≤ steps.old + count_by (is_in_chain (chain_by proto caddr cport)) self.now.entries }
+        ensures counted { OnSome result (steps.old < steps.new) }
     {
         let sides = ReplySides {
             proto,
@@ -197,6 +205,7 @@ impl Entries {
         requires { steps.old < 2 ^ 62 }
         ensures found { option_copied result ≡ reply_entry sides.now.proto sides.now.daddr sides.now.dport sides.now.caddr sides.now.cport self.now.entries }
         ensures steps { steps.new ≤ steps.old + count_by (is_in_chain (chain_by sides.now.proto sides.now.caddr sides.now.cport)) self.now.entries }
+        ensures counted { OnSome result (steps.old < steps.new) }
     {
         let number = chain_of(sides.proto, sides.caddr, sides.cport);
         self.chains[usize::from(number)].find_reply(sides, steps)

@@ -4,7 +4,7 @@ ghost use Rattle.std.specs.List.{filter, find, AllByRecursion};
 ghost use Rattle.lvs_model.specs.Lists.{without};
 ghost use Rattle.lvs_timer.specs.declared.timer.Timer.{Timer};
 ghost use Rattle.lvs_timer.specs.Timers.{is_due, has_id, ids_of};
-ghost use Rattle.lvs_timer.specs.DueLists.{IsEntered};
+ghost use Rattle.lvs_timer.specs.DueLists.{IsEntered, IsDueIn};
 
 use crate::timer::Timer;
 use lvs_types::{NoMemory, Steps};
@@ -54,6 +54,18 @@ impl DueList {
         ensures { self.new ≡ without (has_id timer.now.id) self.old }
     {
         self.timers.remove(timer);
+    }
+
+    /// A due timer, if there is one: the first.
+    pub(crate) fn first_due(&self, now: u64) -> Option<Timer>
+        ensures { IsDueIn now self.now result }
+    {
+        let first = self.timers.first()?;
+        if first.is_due(now) {
+            Some(*first)
+        } else {
+            None
+        }
     }
 
     /// Appends the ids of the due timers. A step is one timer looked at: each due one, and the

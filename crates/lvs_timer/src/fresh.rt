@@ -1,6 +1,6 @@
 //! The timers that were armed last and stand in no due list yet.
 ghost use Rattle.std.specs.Prelude.{◌≡◌, ◌<◌, ◌≤◌, ◌+◌, ◌^◌, ℕ, [], ◌++◌, length, count_by, OnOk};
-ghost use Rattle.std.specs.List.{filter};
+ghost use Rattle.std.specs.List.{filter, find};
 ghost use Rattle.std.specs.Vec.{vec_capacity};
 ghost use Rattle.lvs_timer.specs.Timers.{is_due, has_id, ids_of};
 ghost use Rattle.lvs_timer.specs.DueLists.{AreOnce, in_order};
@@ -27,6 +27,18 @@ pub(crate) fn settle(due: &mut DueList, fresh: &mut Vec<Timer>) -> Result<(), No
         fresh.pop();
     }
     Ok(())
+}
+
+/// A due timer, if there is one: the first that was armed.
+pub(crate) fn fresh_due(fresh: &[Timer], now: u64) -> Option<Timer>
+    ensures { result ≡ find (is_due now) fresh.now }
+{
+    for timer in fresh {
+        if timer.is_due(now) {
+            return Some(*timer);
+        }
+    }
+    None
 }
 
 /// Appends the ids of the due timers. A step is one timer looked at.

@@ -1,5 +1,5 @@
 //! The deadlines of one bucket's entries.
-ghost use Rattle.std.specs.Prelude.{◌≡◌, ◌<◌, ◌≤◌, ◌+◌, ◌^◌, [], length, count_by, IfOk, OnOk, OnErr, None, Some};
+ghost use Rattle.std.specs.Prelude.{◌≡◌, ◌<◌, ◌≤◌, ◌+◌, ◌^◌, [], length, count_by, IfOk, OnOk, OnErr, IfSome, IfNone, None, Some, true};
 ghost use Rattle.std.specs.List.{find, filter};
 ghost use Rattle.lvs_model.specs.Lists.{without, insert_by};
 ghost use Rattle.lvs_timer.specs.declared.timer.Timer.{Timer};
@@ -7,7 +7,7 @@ ghost use Rattle.lvs_timer.specs.Timers.{has_id, is_due, ids_of, AreListed};
 ghost use Rattle.std.specs.List.Sorted.{IsStrictlyIncreasing};
 
 use crate::due_list::DueList;
-use crate::fresh::{FRESH, list_fresh, settle};
+use crate::fresh::{FRESH, fresh_due, list_fresh, settle};
 use crate::timer::Timer;
 use lvs_types::{NoMemory, Steps};
 use std::alloc::Global;
@@ -85,6 +85,18 @@ impl Timers {
     {
         self.due.take(&Timer { deadline, id });
         self.fresh.retain(|t| t.id != id);
+    }
+
+    /// One of the due timers, where there is one: its deadline is at or before `now`, in seconds.
+    pub fn next_due(&self, now: u64) -> Option<Timer>
+        ensures due { IfSome result (λ timer. is_due now timer ≡ true) }
+        ensures armed { IfSome result (λ timer. find (has_id timer.id) self.now.timers ≡ Some timer) }
+        ensures none { IfNone result (filter (is_due now) self.now.timers ≡ []) }
+    {
+        match self.due.first_due(now) {
+            Some(timer) => Some(timer),
+            None => fresh_due(&self.fresh, now),
+        }
     }
 
     /// The ids whose deadline is at or before `now`, in seconds, rising.

@@ -1,4 +1,4 @@
-use Rattle.std.proofs.Common.{◌<◌, ◌+◌, ◌++◌, ◌∙◌, ap, sym, arith, length, drop, List, ℕ, Vec, Global}
+use Rattle.std.proofs.Common.{rules, ◌<◌, ◌+◌, ◌++◌, ◌∙◌, ap, sym, arith, length, drop, List, ℕ, Vec, Global}
 use Rattle.std.specs.List.{filter}
 use Rattle.lvs_timer.specs.declared.timer.Timer.{Timer}
 use Rattle.lvs_timer.specs.Timers.{is_due, ids_of}
@@ -17,7 +17,6 @@ loop-timer-preserved g c =
     let all = c.args.ids.now.items ++ ids_of (filter due fresh) in
     let later = ids_of (filter due (drop (i + 1) fresh)) in
     let counted = c.loop-timer.invariant.counted in
-    let ticked = c.tick.ensures in
     record {
       so_far = elim c.if-is_due.branch [
         | then-is_due+in_ok-push w ↦
@@ -27,5 +26,5 @@ loop-timer-preserved g c =
             ap (λ (v : Vec ℕ Global). v.items ++ later) w.ids-is
             ∙ pass_over due d fresh i c.loop-timer.ids.items all within c.loop-timer.invariant.so_far (sym c.is_due.ensures ∙ w.if-is_due.false)
       ];
-      counted = omega arith;
+      counted = search rules;
     }

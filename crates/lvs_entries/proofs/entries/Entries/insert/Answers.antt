@@ -4,7 +4,7 @@ use Rattle.lvs_model.specs.Lists.{insert_by}
 use Rattle.lvs_model.specs.Lookups.{has_entry_id, entry_at}
 use Rattle.lvs_entries.specs.Seen.{EntriesSeen, ChainSeen}
 use Rattle.lvs_entries.specs.Store.{place_in, entries_in}
-use Rattle.lvs_entries.proofs.Listed.{id_of}
+use Rattle.lvs_entries.proofs.Listed.{id_of, are_listed}
 use Rattle.lvs_entries.proofs.Entered.{entries_entered, store_entered, new_in_chain}
 use Rattle.lvs_entries.proofs.entries.Entries.insert.Goals as goal
 
@@ -35,3 +35,6 @@ returns-clause-entries c =
     entries_entered c.self.inside.chains.items (place_in c.self.inside.places) _ c.self.inside.room c.self.invariant v c.from.result c.push.new.self c.index_mut.result.now
     (c.from.ensures ∙ c.chain_of_key-number.ensures) (omega arith) new_id new_key (c.push.ensures.entries ∙ ap (λ (seen : ChainSeen). seen.entries ++ v ∷ []) c.index_mut.ensures.value)
     ∙ ap (λ (seen : EntriesSeen). insert_by id_of v seen.entries) c.self.view_is
+
+pub returns-clause-listed : goal.returns-clause-listed
+returns-clause-listed c = are_listed _ _ _ _ (invariant_of-self c)

@@ -5,6 +5,7 @@ use Rattle.lvs_model.specs.Lookups.{has_entry_id}
 use Rattle.lvs_entries.specs.Seen.{EntriesSeen, ChainSeen}
 use Rattle.lvs_entries.specs.Store.{place_in}
 use Rattle.lvs_entries.specs.Keyed.{IsTaken}
+use Rattle.lvs_entries.proofs.Listed.{are_listed}
 use Rattle.lvs_entries.proofs.Looking.{found_id, missed_id}
 use Rattle.lvs_entries.proofs.Taken.{entries_taken, store_taken}
 use Rattle.lvs_entries.proofs.Kept.{entries_same, store_same, same_place}
@@ -51,3 +52,9 @@ returns-clause-entries c =
     (c.remove-2.ensures.removed ∙ ap (λ (v : ChainSeen). find (has_entry_id c.args.id) v.entries) c.index_mut.ensures.value)
     (subst (λ (v : ChainSeen). IsTaken c.remove-2.result v.entries c.remove-2.new.self.entries) c.index_mut.ensures.value c.remove-2.ensures.taken)
     ∙ ap (λ (v : EntriesSeen). without (has_entry_id c.args.id) v.entries) c.self.view_is
+
+pub returns-in_default-clause-listed : goal.returns-in_default-clause-listed
+returns-in_default-clause-listed c = are_listed c.self.inside.chains.items _ _ c.self.inside.room c.self.invariant
+
+pub returns-clause-listed : goal.returns-clause-listed
+returns-clause-listed c = are_listed _ _ _ _ (invariant_of-self-2 c)

@@ -1,6 +1,7 @@
 use Rattle.std.proofs.Common.{◌≡◌, ◌∙◌, ap, refl, arith, List, length, take, drop, ◌++◌}
 use Rattle.lvs_entries.specs.Seen.{EntriesSeen, ChainSeen}
 use Rattle.lvs_entries.specs.Store.{place_in, entries_in, lists_of}
+use Rattle.lvs_entries.proofs.Listed.{are_listed}
 use Rattle.lvs_entries.proofs.Widened.{store_widened, entries_same, no_room, whole_back, on_err}
 use Rattle.lvs_entries.proofs.entries.Entries.reserve.Goals as goal
 
@@ -42,3 +43,15 @@ returns-clause-entries c =
     let back = whole_back c.self.inside.chains.len c.self.inside.chains.items c.make_room.new.chains (c.make_room.auto.chains ∙ ap (λ (cs : List ChainSeen). length cs) c.deref_mut.ensures.value) (omega arith) in
     ap entries_in back ∙ entries_same c.self.inside.chains.items c.make_room.new.chains (c.make_room.ensures.entries ∙ ap lists_of c.deref_mut.ensures.value)
     ∙ ap (λ (seen : EntriesSeen). seen.entries) c.self.view_is
+
+pub returns-then-self-gt0-clause-listed : goal.returns-then-self-gt0-clause-listed
+returns-then-self-gt0-clause-listed c = rw (← c.self.view_is) (are_listed c.self.inside.chains.items _ _ c.self.inside.room c.self.invariant)
+
+pub returns-in_err-reserve-clause-listed : goal.returns-in_err-reserve-clause-listed
+returns-in_err-reserve-clause-listed c = are_listed c.self.inside.chains.items _ _ c.self.inside.room c.self.invariant
+
+pub returns-in_err-make_room-clause-listed : goal.returns-in_err-make_room-clause-listed
+returns-in_err-make_room-clause-listed c = are_listed _ _ _ _ (invariant_of-self-in_err-make_room c)
+
+pub returns-clause-listed : goal.returns-clause-listed
+returns-clause-listed c = are_listed _ _ _ _ (invariant_of-self-2 c)
