@@ -1,10 +1,10 @@
--- The test of service keys tells them apart.
-use Rattle.std.proofs.Common.{◌≡◌, ℕ, Bool, true, false, ◌&&◌, ◌==◌, refl, sym, ◌∙◌, ap, subst, eqb-true, eq-eqb}
+-- Service keys that pass the test of their equality are the same.
+use Rattle.std.proofs.Common.{◌≡◌, Bool, true, false, ◌&&◌, refl, ap, eqb-true}
 use Rattle.lvs_types.specs.declared.service.Proto.{Proto}
 use Rattle.lvs_types.specs.declared.service.Proto.TheVariants.{Tcp, Udp}
 use Rattle.lvs_types.specs.declared.service.ServiceKey.{ServiceKey}
 use Rattle.lvs_types.specs.declared.service.ServiceKey.TheVariants.{Net, Mark}
-use Rattle.lvs_model.specs.Same.{proto_eq, addr_eq, service_key_eq}
+use Rattle.lvs_model.specs.Same.{proto_eq, service_key_eq}
 
 and_left : (a b : Bool) → (a && b) ≡ true → a ≡ true
 and_left true b e = refl
@@ -20,10 +20,6 @@ proto_is Tcp Udp e = absurd (cc)
 proto_is Udp Tcp e = absurd (cc)
 proto_is Udp Udp e = refl
 
-proto_own : (a : Proto) → proto_eq a a ≡ true
-proto_own Tcp = refl
-proto_own Udp = refl
-
 pub key_is : (a b : ServiceKey) → service_key_eq a b ≡ true → a ≡ b
 key_is (Net proto addr port) (Net other_proto other_addr other_port) e =
     let two = and_left _ _ e in
@@ -34,18 +30,3 @@ key_is (Net proto addr port) (Net other_proto other_addr other_port) e =
 key_is (Net proto addr port) (Mark other) e = absurd (cc)
 key_is (Mark mark) (Net proto addr port) e = absurd (cc)
 key_is (Mark mark) (Mark other) e = ap Mark (eqb-true mark other e)
-
-pub key_own : (a : ServiceKey) → service_key_eq a a ≡ true
-key_own (Net proto addr port) = rw (proto_own proto, eq-eqb addr.number addr.number refl, eq-eqb port port refl) refl
-key_own (Mark mark) = eq-eqb mark mark refl
-
-flipped : (a b : ServiceKey) (t : Bool) → service_key_eq b a ≡ t → service_key_eq a b ≡ false → t ≡ false
-flipped a b false tie apart = refl
-flipped a b true tie apart =
-    let same = key_is b a tie in
-    let own = subst (λ (k : ServiceKey). service_key_eq k b ≡ true) same (key_own b) in
-    absurd (cc)
-
--- keys that differ do so either way round
-pub key_flip : (a b : ServiceKey) → service_key_eq a b ≡ false → service_key_eq b a ≡ false
-key_flip a b apart = flipped a b (service_key_eq b a) refl apart

@@ -1,5 +1,5 @@
 -- A write at the place that was found is the update of the definitions.
-use Rattle.std.proofs.Common.{◌≡◌, ℕ, ◌<◌, Bool, List, length, Some, get_or, set, refl, arith}
+use Rattle.std.proofs.Common.{◌≡◌, ℕ, ◌<◌, Bool, List, length, Some, get_or, set, arith}
 use Rattle.std.specs.List.{position, position_or_len}
 use Rattle.lvs_model.specs.Lists.{update_first}
 use Rattle.lvs_model.proofs.ListLemmas.{position_some, update_at}

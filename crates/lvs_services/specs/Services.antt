@@ -1,5 +1,5 @@
--- What a table of services answers, and that its keys differ.
-use Rattle.std.specs.Prelude.{◌≡◌, Bool, true, false, List, [], ◌∷◌, Result, Ok, Err}
+-- What a table of services answers.
+use Rattle.std.specs.Prelude.{Bool, true, false, List, Result, Ok, Err}
 use Rattle.std.specs.List.{list_any}
 use Rattle.lvs_types.specs.declared.service.ServiceKey.{ServiceKey}
 use Rattle.lvs_types.specs.declared.service.Service.{Service}
@@ -15,8 +15,3 @@ is_known key services = list_any (has_service_key key) services
 abbrev pub edit_answer : Bool → Result (Unit {0}) ServiceRefused
 edit_answer false = Err refused.NoService
 edit_answer true = Ok tt
-
--- no two services have one key
-abbrev pub AreApart : List Service → Type 0
-AreApart [] = Unit {0}
-AreApart (service ∷ services) = (is_known service.key services ≡ false) × AreApart services

@@ -1,12 +1,14 @@
 //! The table of services.
 ghost use Rattle.std.specs.Prelude.{◌≡◌, ◌≢◌, ◌↔◌, true, false, List, [], ◌∷◌, ◌++◌, Ok, Err, if◌then◌else◌, IfOk, OnOk, OnErr};
 ghost use Rattle.std.specs.Option.{option_copied};
-ghost use Rattle.std.specs.List.{list_any};
+ghost use Rattle.std.specs.List.{list_any, IsDistinct};
 ghost use Rattle.lvs_types.specs.declared.service.Service.{Service};
 ghost use Rattle.lvs_model.specs.Lists.{update_first, without};
 ghost use Rattle.lvs_model.specs.Lookups.{has_service_key, service_at, marked_service, find_service};
 ghost use Rattle.lvs_model.specs.Edits.{with_fresh_cursor};
-ghost use Rattle.lvs_services.specs.Services.{is_known, AreApart, edit_answer};
+ghost use Rattle.lvs_model.specs.Same.{service_key_eq};
+ghost use Rattle.lvs_model.specs.WellFormed.{service_keys};
+ghost use Rattle.lvs_services.specs.Services.{is_known, edit_answer};
 
 use crate::keys;
 use crate::refused::ServiceRefused;
@@ -15,7 +17,7 @@ use std::alloc::Global;
 use std::marker::Model;
 
 /// The cursor of a scheduler that begins anew.
-const FRESH: Cursor = Cursor { last: None, cw: 0 };
+const FRESH_CURSOR: Cursor = Cursor { last: None, cw: 0 };
 
 /// Services in order of addition, each key once.
 #[derive(Debug, Drop)]
@@ -26,13 +28,15 @@ pub struct Services {
 impl Model for Services {
     ghost use Rattle.std.specs.Prelude.{List};
     ghost use Rattle.lvs_types.specs.declared.service.Service.{Service};
-    ghost use Rattle.lvs_services.specs.Services.{AreApart};
+    ghost use Rattle.std.specs.List.{IsDistinct};
+    ghost use Rattle.lvs_model.specs.Same.{service_key_eq};
+    ghost use Rattle.lvs_model.specs.WellFormed.{service_keys};
 
     ghost Value = { List Service };
 
     ghost view = { λ s. s.services.items };
 
-    ghost invariant = { λ s. AreApart s.services.items };
+    ghost invariant = { λ s. IsDistinct service_key_eq (service_keys s.services.items) };
 }
 
 impl Services {
@@ -57,7 +61,7 @@ impl Services {
             return Err(ServiceRefused::Exists);
         }
         let fresh = Service {
-            cursor: FRESH,
+            cursor: FRESH_CURSOR,
             ..service
         };
         match self.services.push(fresh) {
@@ -76,7 +80,7 @@ impl Services {
             return Err(ServiceRefused::NoService);
         }
         let fresh = Service {
-            cursor: FRESH,
+            cursor: FRESH_CURSOR,
             ..service
         };
         keys::replace(&mut self.services, fresh);
@@ -131,9 +135,8 @@ impl Services {
         keys::find(&self.services, key)
     }
 
-    /// Gives the service of a key its cursor.
+    /// Gives the service of a key its cursor. A key that isn't there changes nothing.
     pub fn set_cursor(&mut self, key: &ServiceKey, cursor: Cursor)
-        requires there { is_known key.now self.old ≡ true }
         ensures services { self.new ≡ update_first (has_service_key key.now) (λ (service : Service). record service { cursor = cursor }) self.old }
     {
         keys::turn(&mut self.services, key, cursor);
@@ -142,7 +145,7 @@ impl Services {
     /// The services in order of addition, each key once.
     pub fn list(&self) -> &[Service]
         ensures services { result.now ≡ self.now }
-        ensures apart { AreApart self.now }
+        ensures apart { IsDistinct service_key_eq (service_keys self.now) }
     {
         &self.services
     }

@@ -1,11 +1,10 @@
-use Rattle.std.proofs.Common.{◌≡◌, ◌∙◌, false, ap, sym, subst, List, length, rules}
+use Rattle.std.proofs.Common.{◌≡◌, ◌∙◌, false, ap, sym, subst, length, rules}
 use Rattle.std.proofs.lemmas.List.{with_items_is}
-use Rattle.lvs_types.specs.declared.service.Service.{Service}
 use Rattle.lvs_model.specs.Lists.{update_first}
 use Rattle.lvs_model.specs.Lookups.{has_service_key}
 use Rattle.lvs_model.specs.Edits.{with_fresh_cursor}
-use Rattle.lvs_services.specs.Services.{is_known, AreApart}
-use Rattle.lvs_services.proofs.Apart.{apart_replace, update_unknown}
+use Rattle.lvs_services.specs.Services.{is_known}
+use Rattle.lvs_services.proofs.Apart.{HasDistinctKeys, apart_replace, update_unknown}
 use Rattle.lvs_services.proofs.services.Services.edit.Goals as goal
 
 pub returns-then-not-is_there-clause-services : goal.returns-then-not-is_there-clause-services
@@ -18,4 +17,4 @@ invariant_of-self c =
     let after : c.replace.new.services ≡ update_first (has_service_key c.args.service.key) (λ _. with_fresh_cursor c.args.service) c.self.inside.services.items =
     c.replace.ensures ∙ ap (update_first (has_service_key c.args.service.key) (λ _. with_fresh_cursor c.args.service)) c.deref_mut.ensures.value in
     let long : length c.replace.new.services ≡ c.self.inside.services.len = search rules in
-    subst (λ (ss : List Service). AreApart ss) (sym (with_items_is c.self.inside.services c.replace.new.services long ∙ after)) (apart_replace (with_fresh_cursor c.args.service) c.self.inside.services.items c.self.invariant)
+    subst HasDistinctKeys (sym (with_items_is c.self.inside.services c.replace.new.services long ∙ after)) (apart_replace (with_fresh_cursor c.args.service) c.self.inside.services.items c.self.invariant)

@@ -1,8 +1,7 @@
-use Rattle.std.proofs.Common.{◌≡◌, ◌∙◌, false, sym, subst, List, rules}
-use Rattle.lvs_types.specs.declared.service.Service.{Service}
+use Rattle.std.proofs.Common.{◌≡◌, false, sym, subst, rules}
 use Rattle.lvs_model.specs.Lookups.{has_service_key}
-use Rattle.lvs_services.specs.Services.{is_known, AreApart}
-use Rattle.lvs_services.proofs.Apart.{apart_without, without_unknown}
+use Rattle.lvs_services.specs.Services.{is_known}
+use Rattle.lvs_services.proofs.Apart.{HasDistinctKeys, apart_without, without_unknown}
 use Rattle.lvs_services.proofs.services.Services.remove.Goals as goal
 
 pub returns-then-not-is_there-clause-services : goal.returns-then-not-is_there-clause-services
@@ -12,4 +11,4 @@ returns-then-not-is_there-clause-services c =
 
 pub invariant_of-self : goal.invariant_of-self
 invariant_of-self c =
-    subst (λ (ss : List Service). AreApart ss) (sym c.take_out.ensures) (apart_without (has_service_key c.args.key.now) c.self.inside.services.items c.self.invariant)
+    subst HasDistinctKeys (sym c.take_out.ensures) (apart_without (has_service_key c.args.key.now) c.self.inside.services.items c.self.invariant)
