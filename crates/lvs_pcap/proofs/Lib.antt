@@ -1,0 +1,5 @@
+pub mod FileLemmas
+pub mod Again
+pub mod CountLemmas
+pub mod RoundLemmas
+pub mod FrameLemmas
