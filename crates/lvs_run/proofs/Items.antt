@@ -12,7 +12,9 @@ use Rattle.lvs_types.specs.declared.script.ScriptLine.TheVariants as line
 use Rattle.lvs_model.specs.MessageReading.{read_sync}
 use Rattle.lvs_model.specs.Step.{AreInRange}
 use Rattle.lvs_model.specs.Plans.{items_of_message, items_of_line, items_of_lines, serial_order, placed_after, serial_items}
-use Rattle.lvs_run.specs.Limits.{items_placed, items_in, steps_in, IsWithinLimits}
+use Rattle.lvs_model.specs.ScriptLimits.{items_in, IsWithinLimits}
+use Rattle.lvs_script.specs.Placing.{items_placed}
+use Rattle.lvs_run.specs.Limits.{steps_in}
 
 placed_items : (before items : List Item) → items_placed (placed_after before items) ≡ items
 placed_items before [] = refl

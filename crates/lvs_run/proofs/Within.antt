@@ -19,7 +19,7 @@ use Rattle.lvs_model.specs.Lines.{lines_of, words_of, is_readable, is_skipped}
 use Rattle.lvs_model.specs.Plans.{items_of_line, items_of_lines}
 use Rattle.lvs_types.specs.Limits.{max_items, max_rounds}
 use Rattle.lvs_model.specs.Scripts.{ScriptRead, empty_script, open_round, rounds_read, or_cause, one_word, number_given, refuse_if, checked_round, take_at, take_local, with_line, round_line, take_round_line, take_kind, take_line_words, take_line, take_lines, line_named, checked_place, at_line, script_of, script_read}
-use Rattle.lvs_run.specs.Limits.{AreMoments, items_in, IsWithinLimits}
+use Rattle.lvs_model.specs.ScriptLimits.{AreMoments, items_in, IsWithinLimits}
 
 -- what was read so far is within the limits
 pub record IsWithin (s : ScriptRead) : Type 0 where

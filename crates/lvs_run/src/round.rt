@@ -3,7 +3,7 @@ ghost use Rattle.std.specs.Prelude.{◌≡◌, ◌+◌, ◌≤◌, ◌^◌, map,
 ghost use Rattle.lvs_model.specs.Step.{AreInRange};
 ghost use Rattle.lvs_model.specs.Plans.{items_of_lines};
 ghost use Rattle.lvs_model.specs.Books.{IsRun, placed_of};
-ghost use Rattle.lvs_run.specs.Limits.{items_placed};
+ghost use Rattle.lvs_script.specs.Placing.{items_placed};
 ghost use Rattle.lvs_run.specs.SerialBooks.{IsPlayed};
 
 use crate::director::Director;

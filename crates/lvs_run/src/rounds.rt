@@ -8,7 +8,8 @@ ghost use Rattle.lvs_model.specs.Report.{books_text};
 ghost use Rattle.lvs_model.specs.Scripts.{script_of};
 ghost use Rattle.lvs_run.specs.Written.{AppendsAllButLast};
 ghost use Rattle.lvs_run.specs.Stages.{IsAfterInput};
-ghost use Rattle.lvs_run.specs.Limits.{AreMoments, IsWithinLimits, steps_in};
+ghost use Rattle.lvs_model.specs.ScriptLimits.{AreMoments, IsWithinLimits};
+ghost use Rattle.lvs_run.specs.Limits.{steps_in};
 ghost use Rattle.lvs_run.specs.SerialBooks.{ArePlayed};
 ghost use Rattle.lvs_run.specs.Answers.{IsAnswer};
 

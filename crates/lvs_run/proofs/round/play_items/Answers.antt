@@ -3,7 +3,7 @@ use Rattle.std.specs.Vec.Iter.{into_iter_items}
 use Rattle.lvs_types.specs.declared.book.Noted.{Noted}
 use Rattle.lvs_types.specs.declared.book.Placed.{Placed}
 use Rattle.lvs_model.specs.Step.{AreInRange}
-use Rattle.lvs_run.specs.Limits.{items_placed}
+use Rattle.lvs_script.specs.Placing.{items_placed}
 use Rattle.lvs_run.proofs.Acts.{placed_push}
 use Rattle.lvs_run.proofs.Runs.{run_push}
 use Rattle.lvs_run.proofs.round.play_items.Goals as goal

@@ -2,7 +2,7 @@ use Rattle.std.proofs.Common.{◌≡◌, ◌+◌, ◌≤◌, ◌^◌, ◌++◌, 
 use Rattle.std.specs.Vec.Iter.{into_iter_items}
 use Rattle.lvs_model.specs.Step.{AreInRange}
 use Rattle.lvs_model.specs.Books.{IsRun, placed_of}
-use Rattle.lvs_run.specs.Limits.{items_placed}
+use Rattle.lvs_script.specs.Placing.{items_placed}
 use Rattle.lvs_run.proofs.round.play_items.Given as goal
 
 abbrev pub invariant-loop-placed : goal.invariant-loop-placed

@@ -1,7 +1,7 @@
 use Rattle.std.proofs.Common.{List, length, sym, ap, subst, arith}
 use Rattle.lvs_types.specs.declared.book.Placed.{Placed}
 use Rattle.lvs_model.specs.Step.{AreInRange}
-use Rattle.lvs_run.specs.Limits.{items_placed}
+use Rattle.lvs_script.specs.Placing.{items_placed}
 use Rattle.lvs_run.proofs.Items.{serial_count, serial_range}
 use Rattle.lvs_run.proofs.round.play_round.Goals as goal
 

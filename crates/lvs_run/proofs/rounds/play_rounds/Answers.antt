@@ -1,7 +1,8 @@
 use Rattle.std.proofs.Common.{List, [], ◌∷◌, ◌++◌, length, ◌∙◌, ap, subst, length-append, arith}
 use Rattle.lvs_types.specs.declared.book.RoundBook.{RoundBook}
 use Rattle.lvs_model.specs.Report.{books_text}
-use Rattle.lvs_run.specs.Limits.{AreMoments, steps_in}
+use Rattle.lvs_model.specs.ScriptLimits.{AreMoments}
+use Rattle.lvs_run.specs.Limits.{steps_in}
 use Rattle.lvs_run.proofs.Books.{all_but_last, appends_book, part_whole, part_without_last}
 use Rattle.lvs_run.proofs.Runs.{next_round, played_on}
 use Rattle.lvs_run.proofs.rounds.play_rounds.Goals as goal

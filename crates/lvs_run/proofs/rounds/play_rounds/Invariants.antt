@@ -1,7 +1,8 @@
 use Rattle.std.proofs.Common.{◌≡◌, ◌+◌, ◌≤◌, ◌^◌, length, drop}
 use Rattle.std.specs.Io.KnownBytes.{Appends}
 use Rattle.lvs_model.specs.Report.{books_text}
-use Rattle.lvs_run.specs.Limits.{AreMoments, steps_in}
+use Rattle.lvs_model.specs.ScriptLimits.{AreMoments}
+use Rattle.lvs_run.specs.Limits.{steps_in}
 use Rattle.lvs_run.specs.SerialBooks.{ArePlayed}
 use Rattle.lvs_run.proofs.rounds.play_rounds.Given as goal
 
