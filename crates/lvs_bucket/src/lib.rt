@@ -1,0 +1,11 @@
+//! One bucket: its connection entries and their deadlines together.
+#![tactic(auto)]
+
+mod bucket;
+mod changes;
+mod learnt;
+mod looking;
+mod packets;
+mod protocol;
+
+pub use bucket::Bucket;
