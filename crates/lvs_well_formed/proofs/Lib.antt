@@ -31,3 +31,4 @@ pub mod BucketLists
 pub mod Within
 pub mod BucketSteps
 pub mod BucketLooks
+pub mod BrokenStates
