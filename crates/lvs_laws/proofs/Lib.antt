@@ -17,3 +17,4 @@ pub mod SaveShown
 pub mod SaveNumbers
 pub mod SaveWords
 pub mod SaveLines
+pub mod TakenUp

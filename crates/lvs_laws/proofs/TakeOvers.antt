@@ -50,7 +50,7 @@ use Rattle.lvs_laws.proofs.KeptSteps.{run_kept}
 -- A PACKET OF A CONNECTION
 
 -- an entry is the one that its key finds
-by_key : (s : State) (e : Entry) → IsWellFormed s → entry_of_id e.id s.entries ≡ Some e → entry_at e.key s.entries ≡ Some e
+pub by_key : (s : State) (e : Entry) → IsWellFormed s → entry_of_id e.id s.entries ≡ Some e → entry_at e.key s.entries ≡ Some e
 by_key s e w found = all_find (λ (x : Entry). entry_at x.key s.entries ≡ Some x) (has_entry_id e.id) s.entries e (entries_by_key s w) found
 
 bind_local : (s : State) (e : Entry) (o : Option Dest) → (bind_entry s e o).1.local ≡ s.local

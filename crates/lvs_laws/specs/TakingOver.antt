@@ -1,5 +1,5 @@
 -- What the law Takeover speaks of: the packets of a connection go to its address and port, recorded ones too.
-use Rattle.std.specs.Prelude.{◌≡◌, ℕ, true, false, List, Option, Some, None, take}
+use Rattle.std.specs.Prelude.{◌≡◌, ℕ, ◌<◌, true, false, List, Option, Some, None, take}
 use Rattle.lvs_types.specs.declared.addr.Addr.{Addr}
 use Rattle.lvs_types.specs.declared.head.Head.{Head}
 use Rattle.lvs_types.specs.declared.service.Proto.{Proto}
@@ -16,7 +16,7 @@ use Rattle.lvs_model.specs.Step.{step}
 use Rattle.lvs_model.specs.Rewriting.{bytes_for, is_too_long}
 use Rattle.lvs_model.specs.SyncRules.{is_template_record}
 use Rattle.lvs_model.specs.Learning.{recorded_key}
-use Rattle.lvs_laws.specs.Keeping.{IsPacketOf, packet_of, met, is_reused_by, is_at_removed}
+use Rattle.lvs_laws.specs.Keeping.{IsPacketOf, packet_of, entry_of_id, met, is_reused_by, is_at_removed}
 
 -- a packet of the entry's key that doesn't take up its place
 pub record IsPlainPacketOf (s : State) (e : Entry) (mark : ℕ) (bytes : List ℕ) (head : Head) (proto : Proto) : Type 0 where
@@ -49,3 +49,13 @@ IsThereAsRecorded r (Some e) = IsAsRecorded r e
 -- what the record leaves
 abbrev pub after_record : State → ℕ → SyncRecord → State
 after_record s sync_id r = (step s (item.Learn sync_id (V4 r))).1
+
+-- a packet of the entry's key that meets the test of reuse
+pub record IsReusingPacketOf (s : State) (e : Entry) (mark : ℕ) (bytes : List ℕ) (head : Head) (proto : Proto) : Type 0 where
+  pub packet : IsPacketOf e bytes head proto
+  pub reuses : is_reused_by s e (packet_of mark bytes head proto) ≡ true
+
+-- what comes of it: it is too long for a tunnel, which its new connection would go through, and then everything stays; or it takes up the place of the connection, which has ended
+abbrev pub TakesUp : State → Entry → Head → Reply × State → Type 0
+TakesUp s e head (reply.Drop drops.TooLong, later) = (65515 < head.total) × (later ≡ s)
+TakesUp s e head (answer, later) = entry_of_id e.id later.entries ≡ None

@@ -12,12 +12,15 @@ ghost use Rattle.lvs_model.specs.State.{State};
 ghost use Rattle.lvs_model.specs.Step.{step, run};
 ghost use Rattle.lvs_model.specs.WellFormed.{IsWellFormed};
 ghost use Rattle.lvs_laws.specs.Keeping.{entry_of_id};
-ghost use Rattle.lvs_laws.specs.TakingOver.{IsAsRecorded, IsPlainPacketOf, IsSentOn, IsTakenOver, IsThereAsRecorded, after_record};
+ghost use Rattle.lvs_laws.specs.TakingOver.{IsAsRecorded, IsPlainPacketOf, IsReusingPacketOf, IsSentOn, IsTakenOver, IsThereAsRecorded, TakesUp, after_record};
 
-/// A packet of a connection's key that doesn't take up its place goes to the connection's address and port,
-/// or is dropped, since the server was removed or the tunnel packet would be too long.
+/// A packet of a connection's key that doesn't meet the test of reuse goes to the connection's address and
+/// port, or is dropped, since the server was removed or the tunnel packet would be too long. A packet that
+/// meets it takes up the connection's place, and the connection has ended; or it is too long for the tunnel
+/// that its new connection would go through: it is dropped, and the connection and all else stay.
 pub fn packets_follow_their_connection()
-    ensures { (s : State) (e : Entry) (mark : ℕ) (bytes : List ℕ) (head : Head) (proto : Proto) → IsWellFormed s → entry_of_id e.id s.entries ≡ Some e → IsPlainPacketOf s e mark bytes head proto → IsSentOn s e head bytes e.daddr e.dport (step s (item.Incoming mark bytes)).0 }
+    ensures sent { (s : State) (e : Entry) (mark : ℕ) (bytes : List ℕ) (head : Head) (proto : Proto) → IsWellFormed s → entry_of_id e.id s.entries ≡ Some e → IsPlainPacketOf s e mark bytes head proto → IsSentOn s e head bytes e.daddr e.dport (step s (item.Incoming mark bytes)).0 }
+    ensures reusing { (s : State) (e : Entry) (mark : ℕ) (bytes : List ℕ) (head : Head) (proto : Proto) → IsWellFormed s → entry_of_id e.id s.entries ≡ Some e → IsReusingPacketOf s e mark bytes head proto → TakesUp s e head (step s (item.Incoming mark bytes)) }
 {}
 
 /// After an accepted connection record the entry of its key is there, with the address and port that were
