@@ -2,6 +2,7 @@
 use Rattle.std.proofs.Common.{◌≡◌, ◌==◌, ◌<◌, ℕ, Bool, true, false, cond, not, List, Option, Some, None, Result, refl, sym, ap, subst, ◌∙◌, map, slice_get, nat_lt}
 use Rattle.std.proofs.lemmas.Bool.{ltb-true}
 use Rattle.std.specs.List.{AllByRecursion, find}
+use Rattle.lvs_types.specs.Transport.{transport_of}
 use Rattle.lvs_types.specs.declared.addr.Addr.{Addr}
 use Rattle.lvs_types.specs.declared.addr.TemplateId.{TemplateId}
 use Rattle.lvs_types.specs.declared.head.Head.{Head}
@@ -25,10 +26,10 @@ use Rattle.lvs_model.specs.Lookups.{entry_at, has_entry_id, find_service, server
 use Rattle.lvs_model.specs.Counts.{candidates}
 use Rattle.lvs_model.specs.Pick.{pick}
 use Rattle.lvs_model.specs.Persistence.{template_key, usable_server}
-use Rattle.lvs_model.specs.Packets.{Packet, transport_of, key_of, may_connect}
+use Rattle.lvs_model.specs.Packets.{Packet, key_of, may_connect}
 use Rattle.lvs_model.specs.Binding.{template_tried, put_template}
 use Rattle.lvs_model.specs.Forwarding.{forwarded}
-use Rattle.lvs_model.specs.Scheduling.{enter, connect_to, is_one_packet, new_entry, take_pick, new_template, replace_template, with_cursor, pick_at, picked, schedule, use_template, try_template, persist_by, serve_packet, admit, connect, renewed, port_at}
+use Rattle.lvs_model.specs.Scheduling.{enter, connect_to, is_one_packet, new_entry, take_pick, new_template, replace_template, with_cursor, pick_at, picked, schedule, use_template, try_template, persist_by, serve_packet, admit, connect, renewed, connection_port}
 use Rattle.lvs_model.specs.Incoming.{end_entry, continue, arrive, take_back, incoming_of, incoming_read}
 use Rattle.lvs_model.specs.WellFormed.{IsWellFormed}
 use Rattle.lvs_model.proofs.OrderLemmas.{find_none}
@@ -59,9 +60,9 @@ forwarded_long s p Tunnel daddr dport = tunnelled p.head (nat_lt 65515 p.head.to
 forwarded_long s p Direct daddr dport = tt
 
 connect_to_by : (one_packet : Bool) (s : State) (p : Packet) (service : Service) (d : Dest) (template : Option TemplateId)
-    → IsLongOnly p.head (cond one_packet (forwarded s p d.spec.method d.spec.addr (port_at d p.head), s) (enter s p (new_entry s p service d template) d)).0
-connect_to_by true s p service d template = forwarded_long s p d.spec.method d.spec.addr (port_at d p.head)
-connect_to_by false s p service d template = forwarded_long s p d.spec.method d.spec.addr (port_at d p.head)
+    → IsLongOnly p.head (cond one_packet (forwarded s p d.spec.method d.spec.addr (connection_port d p.head), s) (enter s p (new_entry s p service d template) d)).0
+connect_to_by true s p service d template = forwarded_long s p d.spec.method d.spec.addr (connection_port d p.head)
+connect_to_by false s p service d template = forwarded_long s p d.spec.method d.spec.addr (connection_port d p.head)
 
 connect_to_long : (s : State) (p : Packet) (service : Service) (d : Dest) (template : Option TemplateId) → IsLongOnly p.head (connect_to s p service d template).0
 connect_to_long s p service d template = connect_to_by (is_one_packet service p.proto) s p service d template

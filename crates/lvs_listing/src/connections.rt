@@ -3,7 +3,7 @@ ghost use Rattle.std.specs.Prelude.{◌≡◌, ◌++◌, drop, OnOk, IfOk};
 ghost use Rattle.lvs_model.specs.Listings.{left, entry_line, entry_lines, template_line, template_lines, conns_text};
 
 use crate::names::{code_title, proto_title, state_title};
-use crate::pieces::{put, put_endpoint, put_number};
+use lvs_text::{put, put_endpoint, put_number};
 use lvs_types::{Bytes, Entry, NoMemory, Snapshot, Template};
 use std::alloc::Global;
 

@@ -5,7 +5,7 @@ mod connections;
 mod groups;
 pub mod laws;
 mod names;
-mod pieces;
+mod options;
 mod refused;
 mod restoring;
 mod saving;

@@ -4,7 +4,8 @@ ghost use Rattle.lvs_model.specs.Listings.{key_words, service_words, server_word
 
 use crate::groups::Groups;
 use crate::names::{is_server_of, method_word};
-use crate::pieces::{put, put_endpoint, put_number, put_options, put_threshold};
+use crate::options::{put_options, put_threshold};
+use lvs_text::{put, put_endpoint, put_number};
 use lvs_types::{Bytes, DestRow, DestSpec, NoMemory, Proto, Service, ServiceKey, Snapshot};
 use std::alloc::Global;
 

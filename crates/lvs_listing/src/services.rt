@@ -4,7 +4,8 @@ ghost use Rattle.lvs_model.specs.Listings.{key_text, service_line, server_line, 
 
 use crate::groups::Groups;
 use crate::names::{is_server_of, method_title};
-use crate::pieces::{put, put_endpoint, put_number, put_options};
+use crate::options::put_options;
+use lvs_text::{put, put_endpoint, put_number};
 use lvs_types::{Bytes, DestRow, NoMemory, Proto, Service, ServiceKey, Snapshot};
 use std::alloc::Global;
 

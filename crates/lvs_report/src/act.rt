@@ -2,8 +2,8 @@
 ghost use Rattle.std.specs.Prelude.{◌≡◌, ◌++◌, drop, OnOk};
 ghost use Rattle.lvs_model.specs.Report.{act_line, act_text, acts_text};
 
-use crate::pieces::{put, put_number};
 use crate::reply::{has_line, put_reply};
+use lvs_text::{put, put_number};
 use lvs_types::{NoMemory, Noted};
 
 fn put_line(out: &mut Vec<u8>, place: u64, act: &Noted) -> Result<(), NoMemory>

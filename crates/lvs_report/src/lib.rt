@@ -8,7 +8,6 @@ mod line;
 mod listing;
 mod names;
 mod numbers;
-mod pieces;
 mod reader;
 mod refused;
 mod reply;

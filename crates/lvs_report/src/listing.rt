@@ -2,7 +2,7 @@
 ghost use Rattle.std.specs.Prelude.{◌≡◌, ◌++◌, drop, OnOk};
 ghost use Rattle.lvs_model.specs.Report.{shown_name, shown_text, listings_text};
 
-use crate::pieces::{put, put_hex};
+use lvs_text::{put, put_hex};
 use lvs_types::{NoMemory, Shown, ShownText};
 
 fn put_name(out: &mut Vec<u8>, kind: &Shown) -> Result<(), NoMemory>

@@ -4,7 +4,7 @@ ghost use Rattle.lvs_types.specs.declared.reply.Reply.{Reply};
 ghost use Rattle.lvs_model.specs.Report.{drop_text, messages_text, reply_text, is_printed};
 
 use crate::names::{bad_sync_name, learnt_name, malformed_name, method_name, refused_name};
-use crate::pieces::{put, put_addr, put_hex, put_number};
+use lvs_text::{put, put_addr, put_hex, put_number};
 use lvs_types::{Addr, Bytes, DropCause, Method, NoMemory, Reply};
 
 /// Whether an act with this reply has a line.

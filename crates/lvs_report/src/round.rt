@@ -4,7 +4,7 @@ ghost use Rattle.lvs_model.specs.Report.{head_text, round_text};
 
 use crate::act::put_acts;
 use crate::listing::put_listings;
-use crate::pieces::{put, put_number};
+use lvs_text::{put, put_number};
 use lvs_types::{Bytes, NoMemory, RoundBook};
 use std::alloc::Global;
 

@@ -1,7 +1,7 @@
 use Rattle.std.proofs.Common.{◌^◌, ◌≤◌, lit<, arith}
 use Rattle.std.proofs.Math.Nat.{one-le-pow}
 use Rattle.std.proofs.Math.Pow.{pow_mono}
-use Rattle.lvs_listing.proofs.pieces.block_size.Goals as goal
+use Rattle.lvs_listing.proofs.options.block_size.Goals as goal
 
 pub returns-clause-least : goal.returns-clause-least
 returns-clause-least c =

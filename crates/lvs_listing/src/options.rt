@@ -1,48 +1,9 @@
-//! The pieces that lines are made of, each appended to one buffer.
-ghost use Rattle.std.specs.Prelude.{◌≡◌, ◌++◌, ◌∷◌, [], ◌/◌, ◌%◌, ◌^◌, ◌-◌, ◌≤◌, decimal, OnOk};
-ghost use Rattle.lvs_model.specs.Report.{addr_text};
-ghost use Rattle.lvs_model.specs.Listings.{endpoint_text, mask_addr, mask_text, persist_text, flag_text, options_text, threshold_text};
+//! What a line tells of a service or a server only where it isn't the default.
+ghost use Rattle.std.specs.Prelude.{◌≡◌, ◌++◌, ◌^◌, ◌-◌, ◌≤◌, OnOk};
+ghost use Rattle.lvs_model.specs.Listings.{mask_addr, mask_text, persist_text, flag_text, options_text, threshold_text};
 
-use itoa::Buffer;
+use lvs_text::{put, put_addr, put_number};
 use lvs_types::{Addr, NoMemory, Service};
-
-/// Appends a text.
-pub(crate) fn put(out: &mut Vec<u8>, text: &[u8]) -> Result<(), NoMemory>
-    ensures { OnOk result (out.new.items ≡ out.old.items ++ text.now) }
-{
-    out.extend_from_slice(text)?;
-    Ok(())
-}
-
-/// Appends a number without leading zeros.
-pub(crate) fn put_number(out: &mut Vec<u8>, number: u64) -> Result<(), NoMemory>
-    ensures { OnOk result (out.new.items ≡ out.old.items ++ decimal number) }
-{
-    put(out, Buffer::new().format(number).as_bytes())
-}
-
-/// Appends four numbers joined by dots.
-fn put_addr(out: &mut Vec<u8>, addr: Addr) -> Result<(), NoMemory>
-    ensures { OnOk result (out.new.items ≡ out.old.items ++ addr_text addr) }
-{
-    let number = u64::from(addr.number);
-    put_number(out, number / 16_777_216)?;
-    put(out, b".")?;
-    put_number(out, number / 65_536 % 256)?;
-    put(out, b".")?;
-    put_number(out, number / 256 % 256)?;
-    put(out, b".")?;
-    put_number(out, number % 256)
-}
-
-/// Appends ADDR:PORT.
-pub(crate) fn put_endpoint(out: &mut Vec<u8>, addr: Addr, port: u16) -> Result<(), NoMemory>
-    ensures { OnOk result (out.new.items ≡ out.old.items ++ endpoint_text addr port) }
-{
-    put_addr(out, addr)?;
-    put(out, b":")?;
-    put_number(out, u64::from(port))
-}
 
 /// How many addresses agree in so many leading bits, 2 to the power of the other bits.
 fn block_size(bits: u8) -> u64

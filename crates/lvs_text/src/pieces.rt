@@ -2,27 +2,28 @@
 ghost use Rattle.std.specs.Prelude.{◌≡◌, ◌++◌, ◌∷◌, [], ◌+◌, ◌/◌, ◌%◌, decimal, OnOk};
 ghost use Rattle.hex.specs.Hex.{encode_lower};
 ghost use Rattle.lvs_model.specs.Report.{addr_text};
+ghost use Rattle.lvs_model.specs.Listings.{endpoint_text};
 
 use itoa::Buffer;
 use lvs_types::{Addr, NoMemory};
 
 /// Appends a text.
-pub(crate) fn put(out: &mut Vec<u8>, text: &[u8]) -> Result<(), NoMemory>
+pub fn put(out: &mut Vec<u8>, text: &[u8]) -> Result<(), NoMemory>
     ensures { OnOk result (out.new.items ≡ out.old.items ++ text.now) }
 {
     out.extend_from_slice(text)?;
     Ok(())
 }
 
-/// Appends a number without leading zeros.
-pub(crate) fn put_number(out: &mut Vec<u8>, number: u64) -> Result<(), NoMemory>
+/// Appends a number in decimal digits, without leading zeros.
+pub fn put_number(out: &mut Vec<u8>, number: u64) -> Result<(), NoMemory>
     ensures { OnOk result (out.new.items ≡ out.old.items ++ decimal number) }
 {
     put(out, Buffer::new().format(number).as_bytes())
 }
 
-/// Appends four numbers joined by dots.
-pub(crate) fn put_addr(out: &mut Vec<u8>, addr: Addr) -> Result<(), NoMemory>
+/// Appends an address as four numbers joined by dots.
+pub fn put_addr(out: &mut Vec<u8>, addr: Addr) -> Result<(), NoMemory>
     ensures { OnOk result (out.new.items ≡ out.old.items ++ addr_text addr) }
 {
     let number = u64::from(addr.number);
@@ -35,8 +36,17 @@ pub(crate) fn put_addr(out: &mut Vec<u8>, addr: Addr) -> Result<(), NoMemory>
     put_number(out, number % 256)
 }
 
-/// Appends bytes as lower-case hexadecimal digits.
-pub(crate) fn put_hex(out: &mut Vec<u8>, bytes: &[u8]) -> Result<(), NoMemory>
+/// Appends ADDR:PORT.
+pub fn put_endpoint(out: &mut Vec<u8>, addr: Addr, port: u16) -> Result<(), NoMemory>
+    ensures { OnOk result (out.new.items ≡ out.old.items ++ endpoint_text addr port) }
+{
+    put_addr(out, addr)?;
+    put(out, b":")?;
+    put_number(out, u64::from(port))
+}
+
+/// Appends bytes as lower-case hexadecimal digits, two for each.
+pub fn put_hex(out: &mut Vec<u8>, bytes: &[u8]) -> Result<(), NoMemory>
     ensures { OnOk result (out.new.items ≡ out.old.items ++ encode_lower bytes.now) }
 {
     let Some(digits) = bytes.len().checked_mul(2) else {
