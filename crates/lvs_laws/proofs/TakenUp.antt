@@ -37,6 +37,7 @@ use Rattle.lvs_well_formed.proofs.Lists.{all_filtered}
 use Rattle.lvs_well_formed.proofs.Parts.{Parts, parts_of}
 use Rattle.lvs_well_formed.proofs.Entries.{IsEntryOf}
 use Rattle.lvs_well_formed.proofs.Bindings.{IsTried, try_tried}
+use Rattle.lvs_laws.proofs.KeptPackets.{stands_by}
 use Rattle.lvs_laws.specs.Keeping.{entry_of_id, met, is_reused_by, is_at_removed, packet_of}
 use Rattle.lvs_laws.specs.TakingOver.{IsReusingPacketOf, TakesUp}
 use Rattle.lvs_laws.proofs.Kept.{below_differs, drawn_below}
@@ -133,7 +134,7 @@ arrive_taken_up s p e parts found reuses =
     let none : entry_of_id e.id (connect left p).1.entries ≡ None =
     subst (λ id. entry_of_id id (connect left p).1.entries ≡ None) (met_same s e).id (none_after bound.1 p bound.0 tried.after.parts tried.found)
     in
-    subst (λ reused. TakesUp s e p.head (take_back s (continue bound.1 p bound.0 reused (is_at_removed s e)))) (sym reuses)
+    subst (λ reused. TakesUp s e p.head (take_back s (continue bound.1 p bound.0 (stands_by reused (is_at_removed s e))))) (sym reuses)
     (taken_up_by s e p.head (connect left p).0 (connect left p).1 (connect_long left p) none)
 
 pub step_taken_up : (s : State) (e : Entry) (mark : ℕ) (bytes : List ℕ) (head : Head) (proto : Proto) → IsWellFormed s → entry_of_id e.id s.entries ≡ Some e → IsReusingPacketOf s e mark bytes head proto

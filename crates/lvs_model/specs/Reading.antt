@@ -1,4 +1,8 @@
 -- Reading a packet (RFC 791, section 3.1; RFC 768; RFC 9293, section 3.1): the first cause that fits, or what the headers say.
+--
+--   IPv4 header, 20 bytes and options   0 version and IHL 1, 1 type of service 1, 2 total length 2, 4 identification 2, 6 flags and fragment offset 2, 8 time to live 1, 9 protocol 1, 10 header checksum 2, 12 source address 4, 16 destination address 4
+--   TCP header, 20 bytes and options    0 source port 2, 2 destination port 2, 4 sequence number 4, 8 acknowledgement number 4, 12 data offset and flags 2, 14 window 2, 16 checksum 2, 18 urgent pointer 2
+--   UDP header, 8 bytes                 0 source port 2, 2 destination port 2, 4 length 2, 6 checksum 2
 use Rattle.std.specs.Prelude.{ℕ, ◌+◌, ◌-◌, ◌*◌, ◌/◌, ◌%◌, Bool, not, ◌&&◌, ◌||◌, ◌==◌, List, length, take, drop, slice_index, if◌then◌else◌, nat_lt, Result, Ok, Err}
 use Rattle.lvs_types.specs.declared.head.Head.{Head}
 use Rattle.lvs_types.specs.declared.head.Malformed.{Malformed}
