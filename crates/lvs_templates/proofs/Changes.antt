@@ -6,19 +6,19 @@ use Rattle.std.specs.List.{find}
 use Rattle.std.specs.List.Sorted.{IsStrictlySortedBy}
 use Rattle.std.specs.Map.{values_of, keys_of, remove_entry, set_value}
 use Rattle.std.specs.Option.{option_map}
-use borrow.Author.Tests.{ne_eqb}
 use Rattle.std.proofs.lemmas.Cmp.{nat_cmp_total, eq_by_cmp_equiv}
 use Rattle.std.proofs.lemmas.Map.{lookup-set_value, keys-set_value}
 use Rattle.lvs_types.specs.declared.addr.TemplateId.{TemplateId}
 use Rattle.lvs_types.specs.declared.template.TemplateKey.{TemplateKey}
 use Rattle.lvs_model.specs.Same.{template_id_eq}
 use Rattle.lvs_templates.specs.declared.row.TemplateRow.{TemplateRow}
-use Rattle.lvs_templates.specs.Rows.{has_key, has_id, insert_row, without, replace_row, recount}
+use Rattle.lvs_templates.specs.Rows.{has_key, has_id, insert_row, replace_row, recount}
+use Rattle.lvs_model.specs.Lists.{without}
 use Rattle.lvs_templates.specs.Maps.{key_same, row_at, id_at, row_put, id_put, IsStore}
 use Rattle.lvs_templates.proofs.Keys.{nat_at_is}
 use Rattle.lvs_templates.proofs.Lists.{map-values, map-missed, keys-map, lookup-map}
 use Rattle.lvs_templates.proofs.Tied.{tied_same, tied_insert, tied_over, tied_leave, tied_each, id_here}
-use Rattle.lvs_templates.proofs.Store.{once_in_order, agree_id, find_id, is_free, leads_nowhere, leads_to, rows_insert, rows_replace}
+use Rattle.lvs_templates.proofs.Store.{once_in_order, agree_id, find_id, find_key, is_free, leads_nowhere, leads_to, rows_insert, rows_replace}
 
 pub store_same : (es es' : List (ℕ × TemplateRow)) (ids ids' : List (TemplateKey × ℕ)) → IsStore es ids → es' ≡ es → ((q : TemplateKey) → id_at ids' q ≡ id_at ids q) → IsStore es' ids'
 store_same es es' ids ids' store same same_ids = record {
@@ -62,9 +62,6 @@ led_by key old es ids store there =
 
 own : (a : ℕ) → (a == a) ≡ true
 own a = eq-eqb a a refl
-
-unequal : (a b : ℕ) → (a ≡ b → ⊥) → (a == b) ≡ false
-unequal a b apart = ne_eqb a b apart
 
 number_apart : (a b : ℕ) → (a == b) ≡ false → a ≡ b → ⊥
 number_apart a b e same = let tie : (a == b) ≡ true = subst (λ (n : ℕ). (a == n) ≡ true) same (own a) in absurd (cc)
@@ -112,9 +109,6 @@ store_replace row old es es' es2 ids ids' store there free differ rows' keys' so
           (tied_insert without_rows without_ids (tied_leave (row_at es) (id_at ids) store.tied key old.0 led) row (none_at (is_eq (nat_cmp old.0 id)) (row_at es id) new) (id_here (id_at ids) key None));
     }
 
-flipped : (a b : ℕ) → (a == b) ≡ false → (b == a) ≡ false
-flipped a b e = unequal b a (λ same. number_apart a b e (sym same))
-
 put_ids : (row : TemplateRow) (es : List (ℕ × TemplateRow)) (ids : List (TemplateKey × ℕ)) → IsStore es ids → (id : ℕ) (r : TemplateRow) (b : Bool) → is_eq (nat_cmp row.template.id.0 id) ≡ b → cond b (Some row) (row_at es id) ≡ Some r → r.template.id.0 ≡ id
 put_ids row es ids store id r true tie e =
     let same : row ≡ r = cc in
@@ -124,10 +118,10 @@ put_ids row es ids store id r false tie e = store.tied.ids id r e
 pub rows_replaced : (row : TemplateRow) (old : TemplateId) (es es' es2 : List (ℕ × TemplateRow)) (ids : List (TemplateKey × ℕ)) → IsStore es ids → IsSomeAnd (find (has_key row.template.key) (values_of es)) (λ other. other.template.id ≡ old)
     → IfSome (find (has_id row.template.id) (values_of es)) (λ other. other.template.key ≡ row.template.key) → template_id_eq row.template.id old ≡ false
     → es' ≡ insert_entry nat_cmp es row.template.id.0 row → IsStrictlySortedBy nat_cmp (keys_of es') → ((q : ℕ) → row_at es' q ≡ row_put (row_at es) row.template.id.0 (Some row) q)
-    → es2 ≡ remove_entry (is_at (nat_cmp old.0)) es' → values_of es2 ≡ insert_row row (without row.template.key (values_of es))
+    → es2 ≡ remove_entry (is_at (nat_cmp old.0)) es' → values_of es2 ≡ insert_row row (without (has_key row.template.key) (values_of es))
 rows_replaced row old es es' es2 ids store there free differ is' sorted' rows' is2 =
     let new = moved_id row old es ids store there free differ in
-    ap values_of is2 ∙ rows_replace row old es es' ids store (led_by row.template.key old es ids store there) new (flipped row.template.id.0 old.0 differ) is' sorted'
+    ap values_of is2 ∙ rows_replace row old es es' ids store (led_by row.template.key old es ids store there) new differ is' sorted'
     (λ id r e. put_ids row es ids store id r (is_eq (nat_cmp row.template.id.0 id)) refl (sym (rows' id) ∙ e))
 
 -- ---- a row in the place of one of the same id and key
@@ -209,3 +203,10 @@ also_there id key row es ids store there tie =
     let same : row.template.id.0 ≡ id.0 = sym (eqb-true id.0 row.template.id.0 tie) in
     let under : row_at es id.0 ≡ Some its.0 = subst (λ (n : ℕ). row_at es n ≡ Some its.0) same its.1 in
     subst (λ (o : Option TemplateRow). IsSomeAnd o (λ other. other.template.key ≡ key)) (sym under ∙ find_id id es ids store) its.2
+
+-- the row of an id that no row of another key has is found by its key too
+pub known_id : (id : TemplateId) (key : TemplateKey) (es : List (ℕ × TemplateRow)) (ids : List (TemplateKey × ℕ)) → IsStore es ids → (o : Option TemplateRow) → row_at es id.0 ≡ o → IfSome o (λ row. row.template.key ≡ key) → IsSome o → (row : TemplateRow) × (find (has_key key) (values_of es) ≡ Some row) × (row.template.id.0 ≡ id.0)
+known_id id key es ids store None is free some = absurd (cc)
+known_id id key es ids store (Some row) is free some =
+    let led : id_at ids key ≡ Some id.0 = subst (λ (k : TemplateKey). id_at ids k ≡ Some id.0) free (store.tied.rows id.0 row is) in
+    (row, sym (find_key key id.0 es ids store led) ∙ is, store.tied.ids id.0 row is)

@@ -9,6 +9,9 @@ use Rattle.lvs_templates.specs.Maps.{key_same}
 pub nat_at : (a b : ℕ) → is_eq (nat_cmp a b) ≡ (a == b)
 nat_at a b = grind (arith, nat_tests)
 
+pub nat_at_back : (a b : ℕ) → is_eq (nat_cmp a b) ≡ (b == a)
+nat_at_back a b = grind (arith, nat_tests)
+
 pub nat_at_is : (a b : ℕ) → is_eq (nat_cmp a b) ≡ true → a ≡ b
 nat_at_is a b e = eqb-true a b (sym (nat_at a b) ∙ e)
 

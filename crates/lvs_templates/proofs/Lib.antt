@@ -4,3 +4,5 @@ pub mod Tied
 pub mod Store
 pub mod Changes
 pub mod Leaving
+pub mod Put
+pub mod Known

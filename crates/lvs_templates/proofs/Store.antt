@@ -12,9 +12,10 @@ use Rattle.lvs_types.specs.declared.addr.TemplateId.{TemplateId}
 use Rattle.lvs_types.specs.declared.template.TemplateKey.{TemplateKey}
 use Rattle.lvs_model.specs.Same.{template_key_eq, template_id_eq}
 use Rattle.lvs_templates.specs.declared.row.TemplateRow.{TemplateRow}
-use Rattle.lvs_templates.specs.Rows.{has_key, has_id, insert_row, without}
+use Rattle.lvs_templates.specs.Rows.{has_key, has_id, insert_row}
+use Rattle.lvs_model.specs.Lists.{without}
 use Rattle.lvs_templates.specs.Maps.{row_at, id_at, IsStore}
-use Rattle.lvs_templates.proofs.Keys.{nat_at, nat_at_is, nat_at_own, key_eq_is, key_eq_own}
+use Rattle.lvs_templates.proofs.Keys.{nat_at, nat_at_back, nat_at_is, nat_at_own, key_eq_is, key_eq_own}
 use Rattle.lvs_templates.proofs.Lists.{all_weaken, all_join, all_filter, Once, Agree, find-values, filter-values}
 
 -- ---- numbers in order
@@ -62,13 +63,13 @@ same_tests false false f g = refl
 pub agree_id : (id : TemplateId) (es : List (ℕ × TemplateRow)) (ids : List (TemplateKey × ℕ)) → IsStore es ids → Agree (has_id id) (is_at (nat_cmp id.0)) es
 agree_id id es ids store =
     all_weaken (λ (e : ℕ × TemplateRow). row_at es e.0 ≡ Some e.1) (λ (e : ℕ × TemplateRow). has_id id e.1 ≡ is_at (nat_cmp id.0) e.0)
-    (λ e found. ap (λ n. id.0 == n) (store.tied.ids e.0 e.1 found) ∙ sym (nat_at id.0 e.0)) es (each_found es store.ordered)
+    (λ e found. ap (λ n. n == id.0) (store.tied.ids e.0 e.1 found) ∙ sym (nat_at_back id.0 e.0)) es (each_found es store.ordered)
 
 pub agree_key : (key : TemplateKey) (id : ℕ) (es : List (ℕ × TemplateRow)) (ids : List (TemplateKey × ℕ)) → IsStore es ids → id_at ids key ≡ Some id → Agree (has_key key) (is_at (nat_cmp id)) es
 agree_key key id es ids store led =
     all_weaken (λ (e : ℕ × TemplateRow). row_at es e.0 ≡ Some e.1) (λ (e : ℕ × TemplateRow). has_key key e.1 ≡ is_at (nat_cmp id) e.0)
     (λ e found. same_tests (has_key key e.1) (is_at (nat_cmp id) e.0)
-    (λ tie. let same = key_eq_is key e.1.template.key tie in
+    (λ tie. let same = sym (key_eq_is e.1.template.key key tie) in
     let mine = store.tied.rows e.0 e.1 found in
     let its : id_at ids e.1.template.key ≡ Some id = subst (λ (k : TemplateKey). id_at ids k ≡ Some id) same led in
     let place : id ≡ e.0 = cc in
@@ -78,7 +79,7 @@ agree_key key id es ids store led =
     let there : row_at es e.0 ≡ Some its.0 = subst (λ (n : ℕ). row_at es n ≡ Some its.0) place its.1 in
     let same : its.0 ≡ e.1 = cc in
     let keys : key ≡ e.1.template.key = sym its.2 ∙ ap (λ (x : TemplateRow). x.template.key) same in
-    subst (λ (k : TemplateKey). template_key_eq key k ≡ true) keys (key_eq_own key)))
+    subst (λ (k : TemplateKey). template_key_eq k key ≡ true) keys (key_eq_own key)))
     es (each_found es store.ordered)
 
 -- ---- look-ups
@@ -97,7 +98,7 @@ none_found key (e ∷ es) none = rw none.0 (none_found key es none.1)
 missed_key : (key : TemplateKey) (ids : List (TemplateKey × ℕ)) (row : TemplateRow) (id : ℕ) (b : Bool) → b ≡ has_key key row → id_at ids key ≡ None → id_at ids row.template.key ≡ Some id → b ≡ false
 missed_key key ids row id false tie nowhere led = refl
 missed_key key ids row id true tie nowhere led =
-    let same = key_eq_is key row.template.key (sym tie) in
+    let same = sym (key_eq_is row.template.key key (sym tie)) in
     let none : id_at ids row.template.key ≡ None = subst (λ (k : TemplateKey). id_at ids k ≡ None) same nowhere in
     absurd (cc)
 
@@ -112,16 +113,16 @@ none_agree key es ids store nowhere =
     all_weaken (λ (e : ℕ × TemplateRow). row_at es e.0 ≡ Some e.1) (λ (e : ℕ × TemplateRow). has_key key e.1 ≡ false)
     (λ e found. missed_key key ids e.1 e.0 (has_key key e.1) refl nowhere (store.tied.rows e.0 e.1 found)) es (each_found es store.ordered)
 
-kept_whole : (key : TemplateKey) (es : List (ℕ × TemplateRow)) → AllByRecursion (λ (e : ℕ × TemplateRow). has_key key e.1 ≡ false) es → values_of es ≡ without key (values_of es)
+kept_whole : (key : TemplateKey) (es : List (ℕ × TemplateRow)) → AllByRecursion (λ (e : ℕ × TemplateRow). has_key key e.1 ≡ false) es → values_of es ≡ without (has_key key) (values_of es)
 kept_whole key [] none = refl
 kept_whole key (e ∷ es) none = rw none.0 (ap (λ rows. e.1 ∷ rows) (kept_whole key es none.1))
 
 -- taking out a key that leads nowhere changes nothing
-pub without_none : (key : TemplateKey) (es : List (ℕ × TemplateRow)) (ids : List (TemplateKey × ℕ)) → IsStore es ids → id_at ids key ≡ None → values_of es ≡ without key (values_of es)
+pub without_none : (key : TemplateKey) (es : List (ℕ × TemplateRow)) (ids : List (TemplateKey × ℕ)) → IsStore es ids → id_at ids key ≡ None → values_of es ≡ without (has_key key) (values_of es)
 without_none key es ids store nowhere = kept_whole key es (none_agree key es ids store nowhere)
 
 -- taking out a key takes out the row under its id
-pub without_one : (key : TemplateKey) (id : ℕ) (es : List (ℕ × TemplateRow)) (ids : List (TemplateKey × ℕ)) → IsStore es ids → id_at ids key ≡ Some id → without key (values_of es) ≡ values_of (remove_entry (is_at (nat_cmp id)) es)
+pub without_one : (key : TemplateKey) (id : ℕ) (es : List (ℕ × TemplateRow)) (ids : List (TemplateKey × ℕ)) → IsStore es ids → id_at ids key ≡ Some id → without (has_key key) (values_of es) ≡ values_of (remove_entry (is_at (nat_cmp id)) es)
 without_one key id es ids store led = filter-values (has_key key) (is_at (nat_cmp id)) es (agree_key key id es ids store led) (once_in_order id (keys_of es) store.ordered)
 
 -- ---- what is led to
@@ -225,21 +226,21 @@ module _ (q : TemplateRow → Bool) (row : TemplateRow) (keeps : q row ≡ true)
   filter_insert (other ∷ rows) sorted = filter_by other rows (nat_lt row.template.id.0 other.template.id.0) refl sorted.0 (filter_insert rows sorted.1)
 
 -- a row with a new id in the place of the one of its key, whose id is old
-pub rows_replace : (row : TemplateRow) (old : TemplateId) (es es' : List (ℕ × TemplateRow)) (ids : List (TemplateKey × ℕ)) → IsStore es ids → id_at ids row.template.key ≡ Some old.0 → row_at es row.template.id.0 ≡ None → template_id_eq old row.template.id ≡ false
+pub rows_replace : (row : TemplateRow) (old : TemplateId) (es es' : List (ℕ × TemplateRow)) (ids : List (TemplateKey × ℕ)) → IsStore es ids → id_at ids row.template.key ≡ Some old.0 → row_at es row.template.id.0 ≡ None → template_id_eq row.template.id old ≡ false
     → es' ≡ insert_entry nat_cmp es row.template.id.0 row → IsStrictlySortedBy nat_cmp (keys_of es') → ((id : ℕ) (r : TemplateRow) → row_at es' id ≡ Some r → r.template.id.0 ≡ id)
-    → values_of (remove_entry (is_at (nat_cmp old.0)) es') ≡ insert_row row (without row.template.key (values_of es))
+    → values_of (remove_entry (is_at (nat_cmp old.0)) es') ≡ insert_row row (without (has_key row.template.key) (values_of es))
 rows_replace row old es es' ids store led free differ es'_is sorted' ids' =
     let own' = own_ids es' sorted' ids' in
     let agree' : Agree (has_id old) (is_at (nat_cmp old.0)) es' =
     all_weaken (λ (e : ℕ × TemplateRow). e.1.template.id.0 ≡ e.0) (λ (e : ℕ × TemplateRow). has_id old e.1 ≡ is_at (nat_cmp old.0) e.0)
-    (λ e own. ap (λ n. old.0 == n) own ∙ sym (nat_at old.0 e.0)) es' own' in
+    (λ e own. ap (λ n. n == old.0) own ∙ sym (nat_at_back old.0 e.0)) es' own' in
     let taken : filter (λ x. not (has_id old x)) (values_of es') ≡ values_of (remove_entry (is_at (nat_cmp old.0)) es') =
     filter-values (has_id old) (is_at (nat_cmp old.0)) es' agree' (once_in_order old.0 (keys_of es') sorted') in
     let put : values_of es' ≡ insert_row row (values_of es) = ap values_of es'_is ∙ rows_insert row es ids store free in
     let keeps : not (has_id old row) ≡ true = ap not differ in
     let moved : filter (λ x. not (has_id old x)) (insert_row row (values_of es)) ≡ insert_row row (filter (λ x. not (has_id old x)) (values_of es)) =
     filter_insert (λ x. not (has_id old x)) row keeps (values_of es) (rows_sorted es ids store) in
-    let same : filter (λ x. not (has_id old x)) (values_of es) ≡ without row.template.key (values_of es) =
+    let same : filter (λ x. not (has_id old x)) (values_of es) ≡ without (has_key row.template.key) (values_of es) =
     filter-values (has_id old) (is_at (nat_cmp old.0)) es (agree_id old es ids store) (once_in_order old.0 (keys_of es) store.ordered)
     ∙ sym (without_one row.template.key old.0 es ids store led) in
     sym taken ∙ ap (filter (λ x. not (has_id old x))) put ∙ moved ∙ ap (insert_row row) same

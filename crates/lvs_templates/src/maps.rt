@@ -1,12 +1,14 @@
 //! The two maps of a store: the rows by id, and the ids by key.
-ghost use Rattle.std.specs.Prelude.{◌≡◌, ℕ, ◌+◌, ◌-◌, ◌<◌, ◌^◌, false, [], IfOk, IfSome, OnOk, OnErr, Some, None, IsSomeAnd, map};
+ghost use Rattle.std.specs.Prelude.{◌≡◌, ℕ, ◌+◌, ◌-◌, ◌<◌, ◌^◌, false, [], IfOk, IfSome, OnOk, OnErr, IsOk, IsSome, Some, None, IsSomeAnd, map};
 ghost use Rattle.std.specs.Option.{option_map, option_copied};
 ghost use Rattle.std.specs.List.{find, filter, count_by};
 ghost use Rattle.std.specs.BTreeMap.{insert_entry, IsUnchanged, IsOrdered};
 ghost use Rattle.std.specs.Ordering.{nat_cmp};
 ghost use Rattle.lvs_types.specs.declared.template.TemplateKey.{TemplateKey};
 ghost use Rattle.lvs_model.specs.Same.{template_id_eq};
-ghost use Rattle.lvs_templates.specs.Rows.{has_key, has_id, without, without_all, replace_row, insert_row, recount, leaves, is_renewed, renew, templates_of};
+ghost use Rattle.lvs_model.specs.Lists.{without};
+ghost use Rattle.lvs_model.specs.Lookups.{template_at, template_of_id};
+ghost use Rattle.lvs_templates.specs.Rows.{has_key, has_id, put, without_all, replace_row, insert_row, recount, leaves, is_renewed, renew, templates_of, AreDistinct};
 ghost use Rattle.lvs_templates.specs.Maps.{IsWhole, rows_of, row_at, id_at, row_put, id_put};
 
 use crate::row::TemplateRow;
@@ -33,22 +35,53 @@ impl Maps {
     }
 
     /// The row of an id.
-    pub(crate) fn of_id(&self, id: TemplateId) -> Option<&TemplateRow>
+    pub(crate) fn get(&self, id: TemplateId) -> Option<&TemplateRow>
         requires { IsWhole self.now }
-        ensures { option_copied result ≡ find (has_id id) (rows_of self.now) }
+        ensures row { option_copied result ≡ find (has_id id) (rows_of self.now) }
+        ensures template { option_map (λ (r : TemplateRow). r.template) (option_copied result) ≡ template_of_id id (templates_of (rows_of self.now)) }
+        ensures apart { AreDistinct (rows_of self.now) }
     {
         self.rows.get(&id.0)
     }
 
     /// The row of a key.
-    pub(crate) fn of_key(&self, key: &TemplateKey) -> Option<&TemplateRow>
+    pub(crate) fn find(&self, key: &TemplateKey) -> Option<&TemplateRow>
         requires { IsWhole self.now }
-        ensures { option_copied result ≡ find (has_key key.now) (rows_of self.now) }
+        ensures row { option_copied result ≡ find (has_key key.now) (rows_of self.now) }
+        ensures template { option_map (λ (r : TemplateRow). r.template) (option_copied result) ≡ template_at key.now (templates_of (rows_of self.now)) }
+        ensures apart { AreDistinct (rows_of self.now) }
     {
         match self.ids.get(key) {
             Some(id) => self.rows.get(id),
             None => None,
         }
+    }
+
+    /// Puts in a template in the place of the one of its key, which it hands back. The count of
+    /// controls stays where that one has the same id.
+    pub(crate) fn put(&mut self, template: Template) -> Result<Option<Template>, NoMemory>
+        requires whole { IsWhole self.old }
+        requires free { IfSome (find (has_id template.id) (rows_of self.old)) (λ row. row.template.key ≡ template.key) }
+        ensures whole { IsWhole self.new }
+        ensures before { IfOk result (λ old. old ≡ template_at template.key (templates_of (rows_of self.old))) }
+        ensures rows { OnOk result (rows_of self.new ≡ put template (rows_of self.old)) }
+        ensures known { IsSome (template_of_id template.id (templates_of (rows_of self.old))) → IsOk result }
+        ensures err { OnErr result (rows_of self.new ≡ rows_of self.old) }
+    {
+        let new = TemplateRow {
+            template,
+            controls: 0,
+        };
+        let Some(&old) = self.find(&template.key) else {
+            self.insert(new)?;
+            return Ok(None);
+        };
+        if template.id == old.template.id {
+            self.overwrite(TemplateRow { template, ..old });
+        } else {
+            self.replace(old.template.id, new)?;
+        }
+        Ok(Some(old.template))
     }
 
     /// Puts a row under its id, and its id under its key.
@@ -68,7 +101,7 @@ impl Maps {
     }
 
     /// Puts in a row whose id and key are new.
-    pub(crate) fn insert(&mut self, row: TemplateRow) -> Result<(), NoMemory>
+    fn insert(&mut self, row: TemplateRow) -> Result<(), NoMemory>
         requires whole { IsWhole self.old }
         requires new_id { IfSome (find (has_id row.template.id) (rows_of self.old)) (λ other. other.template.key ≡ row.template.key) }
         requires new_key { find (has_key row.template.key) (rows_of self.old) ≡ None }
@@ -81,13 +114,13 @@ impl Maps {
     }
 
     /// Puts in a row with a new id, and takes out the one of its key, whose id is `old`.
-    pub(crate) fn replace(&mut self, old: TemplateId, row: TemplateRow) -> Result<(), NoMemory>
+    fn replace(&mut self, old: TemplateId, row: TemplateRow) -> Result<(), NoMemory>
         requires whole { IsWhole self.old }
         requires there { IsSomeAnd (find (has_key row.template.key) (rows_of self.old)) (λ other. other.template.id ≡ old) }
         requires new_id { IfSome (find (has_id row.template.id) (rows_of self.old)) (λ other. other.template.key ≡ row.template.key) }
         requires differ { template_id_eq row.template.id old ≡ false }
         ensures whole { IsWhole self.new }
-        ensures rows { OnOk result (rows_of self.new ≡ insert_row row (without row.template.key (rows_of self.old))) }
+        ensures rows { OnOk result (rows_of self.new ≡ insert_row row (without (has_key row.template.key) (rows_of self.old))) }
         ensures err { OnErr result (rows_of self.new ≡ rows_of self.old) }
     {
         self.enter(row)?;
@@ -96,7 +129,7 @@ impl Maps {
     }
 
     /// Writes a row over the one of the same id and key.
-    pub(crate) fn overwrite(&mut self, row: TemplateRow)
+    fn overwrite(&mut self, row: TemplateRow)
         requires whole { IsWhole self.old }
         requires there { IsSomeAnd (find (has_id row.template.id) (rows_of self.old)) (λ other. other.template.key ≡ row.template.key) }
         ensures whole { IsWhole self.new }
@@ -135,8 +168,8 @@ impl Maps {
     pub(crate) fn leave(&mut self, key: &TemplateKey) -> Option<TemplateRow>
         requires { IsWhole self.old }
         ensures whole { IsWhole self.new }
-        ensures row { result ≡ find (has_key key.now) (rows_of self.old) }
-        ensures rows { rows_of self.new ≡ without key.now (rows_of self.old) }
+        ensures template { option_map (λ (r : TemplateRow). r.template) result ≡ template_at key.now (templates_of (rows_of self.old)) }
+        ensures rows { rows_of self.new ≡ without (has_key key.now) (rows_of self.old) }
     {
         let Some(id) = self.ids.remove(key) else {
             return None;
@@ -190,7 +223,9 @@ impl Maps {
 
     /// All templates, in order of id.
     pub(crate) fn all(&self, alloc: Global) -> Result<Vec<Template>, NoMemory>
-        ensures { IfOk result (λ v. v.items ≡ templates_of (rows_of self.now)) }
+        requires { IsWhole self.now }
+        ensures templates { IfOk result (λ v. v.items ≡ templates_of (rows_of self.now)) }
+        ensures apart { AreDistinct (rows_of self.now) }
     {
         let all = self.rows.values().map(|row| row.template).collect(alloc)?;
         Ok(all)

@@ -7,10 +7,12 @@ use lvs_types::Template;
 /// For how long a due template stays that has controls, in seconds.
 const RENEWAL: u64 = 60;
 
-/// A template with its count of controls: how many connection entries were made by it.
+/// A template with its count of controls.
 #[derive(Clone, Copy, Debug, PartialEq, Eq)]
 pub struct TemplateRow {
+    /// The template.
     pub template: Template,
+    /// How many connection entries were made by it.
     pub controls: u64,
 }
 

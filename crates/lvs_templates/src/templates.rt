@@ -1,12 +1,14 @@
 //! The store of templates.
-ghost use Rattle.std.specs.Prelude.{◌≡◌, ◌<◌, ◌+◌, ◌-◌, ◌^◌, List, [], IfOk, IfSome, OnOk, OnErr};
+ghost use Rattle.std.specs.Prelude.{◌≡◌, ◌<◌, ◌+◌, ◌-◌, ◌^◌, ◌∷◌, ◌++◌, List, [], IfOk, IfSome, OnOk, OnErr, IsOk, IsSome};
 ghost use Rattle.std.specs.Option.{option_map, option_copied};
-ghost use Rattle.std.specs.List.{find, filter, count_by};
-ghost use Rattle.lvs_templates.specs.Rows.{has_key, has_id, of_key, of_id, put, without, recount, leaves, is_renewed, after_due, templates_of, IsRising};
+ghost use Rattle.std.specs.List.{find, filter, count_by, AllByRecursion};
+ghost use Rattle.lvs_model.specs.Lists.{without};
+ghost use Rattle.lvs_model.specs.Lookups.{template_at, template_of_id};
+ghost use Rattle.lvs_templates.specs.declared.row.TemplateRow.{TemplateRow};
+ghost use Rattle.lvs_templates.specs.Rows.{has_key, has_id, new_row, put, recount, leaves, is_renewed, after_due, templates_of, AreDistinct, IsRising};
 
 use crate::due::Due;
 use crate::maps::Maps;
-use crate::row::TemplateRow;
 use lvs_types::{NoMemory, Template, TemplateId, TemplateKey};
 use std::alloc::Global;
 use std::marker::Model;
@@ -39,60 +41,46 @@ impl Templates {
         })
     }
 
-    /// The template of a key.
+    /// The template of a key. No two templates have one key or one id.
     pub fn find(&self, key: &TemplateKey) -> Option<&Template>
-        ensures { option_copied result ≡ of_key key.now self.now }
+        ensures template { option_copied result ≡ template_at key.now (templates_of self.now) }
+        ensures apart { AreDistinct self.now }
     {
-        match self.maps.of_key(key) {
+        match self.maps.find(key) {
             Some(row) => Some(&row.template),
             None => None,
         }
     }
 
-    /// The template of an id.
+    /// The template of an id. No two templates have one key or one id.
     pub fn get(&self, id: TemplateId) -> Option<&Template>
-        ensures { option_copied result ≡ of_id id self.now }
+        ensures template { option_copied result ≡ template_of_id id (templates_of self.now) }
+        ensures apart { AreDistinct self.now }
     {
-        match self.maps.of_id(id) {
+        match self.maps.get(id) {
             Some(row) => Some(&row.template),
             None => None,
         }
     }
 
     /// Puts a template in the place of the one of its key, which it hands back. The count of
-    /// controls stays where that one has the same id, and else begins at 0.
+    /// controls stays where that one has the same id, and else begins at 0. A template whose id is
+    /// there takes no memory.
     pub fn put(&mut self, template: Template) -> Result<Option<Template>, NoMemory>
         requires free { IfSome (find (has_id template.id) self.old) (λ row. row.template.key ≡ template.key) }
-        ensures before { IfOk result (λ old. old ≡ of_key template.key self.old) }
+        ensures before { IfOk result (λ old. old ≡ template_at template.key (templates_of self.old)) }
         ensures rows { OnOk result (self.new ≡ put template self.old) }
+        ensures last { AllByRecursion (λ (row : TemplateRow). row.template.id.0 < template.id.0) self.old → OnOk result (self.new ≡ without (has_key template.key) self.old ++ new_row template ∷ []) }
+        ensures known { IsSome (template_of_id template.id (templates_of self.old)) → IsOk result }
         ensures err { OnErr result (self.new ≡ self.old) }
     {
-        let Some(&old) = self.maps.of_key(&template.key) else {
-            self.maps.insert(TemplateRow {
-                template,
-                controls: 0,
-            })?;
-            return Ok(None);
-        };
-        if template.id == old.template.id {
-            self.maps.overwrite(TemplateRow {
-                template,
-                controls: old.controls,
-            });
-        } else {
-            let row = TemplateRow {
-                template,
-                controls: 0,
-            };
-            self.maps.replace(old.template.id, row)?;
-        }
-        Ok(Some(old.template))
+        self.maps.put(template)
     }
 
     /// Takes out the template of a key.
     pub fn take(&mut self, key: &TemplateKey) -> Option<Template>
-        ensures taken { result ≡ of_key key.now self.old }
-        ensures rows { self.new ≡ without key.now self.old }
+        ensures taken { result ≡ template_at key.now (templates_of self.old) }
+        ensures rows { self.new ≡ without (has_key key.now) self.old }
     {
         match self.maps.leave(key) {
             Some(row) => Some(row.template),
@@ -137,6 +125,7 @@ impl Templates {
     /// All templates, in order of id.
     pub fn all(&self, alloc: Global) -> Result<Vec<Template>, NoMemory>
         ensures templates { IfOk result (λ all. all.items ≡ templates_of self.now) }
+        ensures apart { AreDistinct self.now }
         ensures rising { IfOk result (λ all. IsRising all.items) }
     {
         self.maps.all(alloc)

@@ -8,4 +8,4 @@ use Rattle.lvs_templates.proofs.templates.Templates.all.Goals as goal
 pub returns-clause-rising : goal.returns-clause-rising
 returns-clause-rising c =
     IfOk-weaker c.all.result (λ v. v.items ≡ templates_of (rows_of c.self.inside.maps)) _
-    (λ v is. all_rise c.self.inside.maps.rows.entries c.self.inside.maps.ids.entries v.items c.self.invariant is) c.all.ensures
+    (λ v is. all_rise c.self.inside.maps.rows.entries c.self.inside.maps.ids.entries v.items c.self.invariant is) c.all.ensures.templates
