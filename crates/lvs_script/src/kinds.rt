@@ -5,7 +5,7 @@ ghost use Rattle.lvs_model.specs.Scripts.{line_name, line_named};
 use lvs_model::script::LineName;
 
 /// All kinds.
-const LINE_NAMES: [LineName; 10] = [
+const LINE_NAMES: [LineName; 11] = [
     LineName::Local,
     LineName::At,
     LineName::Ipvs,
@@ -16,6 +16,7 @@ const LINE_NAMES: [LineName; 10] = [
     LineName::List,
     LineName::Conns,
     LineName::Save,
+    LineName::Icmp,
 ];
 
 /// The first word of each kind.
@@ -33,6 +34,7 @@ fn line_name(kind: LineName) -> &'static [u8]
         LineName::List => b"list",
         LineName::Conns => b"conns",
         LineName::Save => b"save",
+        LineName::Icmp => b"icmp",
     }
 }
 

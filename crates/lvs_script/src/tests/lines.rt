@@ -20,6 +20,8 @@ fn reads_lines(rt: HostRuntime) -> Result<(), Fail> {
         ("list", "[Show(List)]"),
         ("conns\t", "[Show(Conns)]"),
         ("  save", "[Show(Save)]"),
+        ("icmp in 45fF", "[Show(IcmpIn(Listed { inner: [69, 255] }))]"),
+        ("icmp\tout  00", "[Show(IcmpOut(Listed { inner: [0] }))]"),
     ] {
         let text = format!(in alloc; "at 0\n{text}\n")?;
         let script = read_script(alloc, text.as_bytes())?;

@@ -18,6 +18,7 @@ fn refuses_lines(rt: HostRuntime) {
         ("at 0\nlist \0\n", 2, UnknownLine),
         ("at 0\nlist \u{e9}\n", 2, UnknownLine),
         ("at 0\nLIST\n", 2, UnknownLine),
+        ("at 0\nIcmp in 45\n", 2, UnknownLine),
         ("check\n", 1, UnknownLine),
         // a place
         ("at 0\nlocal 10.0.0.1\n", 2, LocalPlace),
@@ -25,6 +26,7 @@ fn refuses_lines(rt: HostRuntime) {
         ("at 0\n\nlocal\n", 3, LocalPlace),
         ("\n# in\nin 0 45\n", 3, BeforeAt),
         ("in\n", 1, BeforeAt),
+        ("icmp\n", 1, BeforeAt),
         ("local 1.2.3.4\nlist\n", 2, BeforeAt),
         // the number of words
         ("local 1.2.3.4 5\n", 1, WordCount),
@@ -34,6 +36,9 @@ fn refuses_lines(rt: HostRuntime) {
         ("at 0\nin 0\n", 2, WordCount),
         ("at 0\nin x 4 5\n", 2, WordCount),
         ("at 0\nsave now\n", 2, WordCount),
+        ("at 0\nicmp 45\n", 2, WordCount),
+        ("at 0\nicmp in 45 45\n", 2, WordCount),
+        ("at 0\nicmp IN 4\n", 2, WordCount),
         // a word
         ("local 1.2.3\n", 1, BadAddress),
         ("local 256.0.0.0\n", 1, BadAddress),
@@ -46,6 +51,8 @@ fn refuses_lines(rt: HostRuntime) {
         ("at 0\nin 0 450\n", 2, BadHex),
         ("at 0\nout 450\n", 2, BadHex),
         ("at 0\nsync 4g\n", 2, BadHex),
+        ("at 0\nicmp in 4\n", 2, BadHex),
+        ("at 0\nicmp out 4g\n", 2, BadHex),
         ("at 0\nipvs\n", 2, missing),
         ("at 0\nipvs -A -t 10.0.0.1:0 -s rr\n", 2, zero_port),
         ("at 0\nipvs -Lz\n", 2, unknown_option),
