@@ -2,6 +2,7 @@
 use Rattle.std.proofs.Common.{◌≡◌, ℕ, ◌+◌, ◌<◌, ◌^◌, Bool, true, false, not, ◌==◌, cond, List, [], ◌∷◌, ◌++◌, length, map, Option, Some, None, Result, Ok, refl, sym, ◌∙◌, ap, arith, lit<, decimal, codes, append_assoc, append-nil}
 use Rattle.std.specs.List.{list_all, slice_split, onto_first, join_with_byte, AllByRecursion}
 use Rattle.std.proofs.lemmas.List.Splits.{length-slice_split, join_with_byte-slice_split}
+use Rattle.hex.specs.Hex.{encode_lower}
 use Rattle.lvs_types.specs.declared.book.Noted.{Noted}
 use Rattle.lvs_types.specs.declared.book.RoundBook.{RoundBook}
 use Rattle.lvs_types.specs.declared.book.Shown.{Shown}
@@ -12,8 +13,9 @@ use Rattle.lvs_types.specs.declared.report.ReportLine.TheVariants as line
 use Rattle.lvs_model.specs.Lines.{is_feed}
 use Rattle.lvs_model.specs.Report.{is_printed, reply_text, act_line, act_text, acts_text, shown_name, shown_text, listings_text, head_text, round_text}
 use Rattle.lvs_model.specs.ReportReading.{LineRead, outside_listing, is_end, report_line_read, onto, read_then, lines_from, report_of}
-use Rattle.lvs_model.specs.ReportLines.{act_lines, report_lines, are_lines, is_table, is_read_again, IsActInRange, IsReadAgain}
-use Rattle.lvs_report.proofs.Avoids.{avoids, both, glue, decimal_avoids, reply_avoids, reply_filled, and_true, first_of_and, rest_of_and}
+use Rattle.lvs_model.specs.ReportLines.{act_lines, report_lines, are_lines, is_named, is_read_again, IsActInRange, IsReadAgain}
+use Rattle.lvs_report.proofs.Avoids.{avoids, both, glue, decimal_avoids, reply_avoids, reply_filled, and_true, first_of_and, rest_of_and, hex_avoids}
+use Rattle.lvs_report.proofs.ErrorNames.{inward_own, outward_own}
 use Rattle.lvs_report.proofs.PrintedLines.{head_line, head_line_own, act_body, act_line_own}
 use Rattle.lvs_report.proofs.Reading.{more_pieces}
 
@@ -181,12 +183,12 @@ listing_lines (text ∷ next ∷ more) number kind before rest lines all whole l
     ∙ ap (λ (text : List ℕ). found (line.Shown (open_with kind text) ∷ lines)) same
 
 -- the first line of a listing
-first_line : (kind : Shown) → is_table kind ≡ true → (avoids 10 (shown_name kind) ≡ true) × (report_line_read None (shown_name kind) ≡ Some (record { whole = []; open_listing = Some (open_with kind []) }))
-first_line shown.List table = (refl, refl)
-first_line shown.Conns table = (refl, refl)
-first_line shown.Save table = (refl, refl)
-first_line (shown.IcmpIn bytes) table = absurd cc
-first_line (shown.IcmpOut bytes) table = absurd cc
+first_line : (kind : Shown) → is_named kind ≡ true → (avoids 10 (shown_name kind) ≡ true) × (report_line_read None (shown_name kind) ≡ Some (record { whole = []; open_listing = Some (open_with kind []) }))
+first_line shown.List named = (refl, refl)
+first_line shown.Conns named = (refl, refl)
+first_line shown.Save named = (refl, refl)
+first_line (shown.IcmpIn bytes) named = (both 10 (codes "icmp in ") (encode_lower bytes) refl (hex_avoids bytes), inward_own bytes named)
+first_line (shown.IcmpOut bytes) named = (both 10 (codes "icmp out ") (encode_lower bytes) refl (hex_avoids bytes), outward_own bytes named)
 
 reads_listing : (listing : ShownText) (rest : List ℕ) (lines : List ReportLine) → is_read_again listing ≡ true → Reads rest lines → Reads (shown_text listing ++ rest) (line.Shown listing ∷ lines)
 reads_listing listing rest lines again later = λ number.

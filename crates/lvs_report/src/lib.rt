@@ -3,6 +3,7 @@
 
 mod act;
 mod cutting;
+mod icmp;
 pub mod laws;
 mod line;
 mod listing;
@@ -15,6 +16,7 @@ mod report;
 mod round;
 pub mod worked_examples;
 
+pub use icmp::print_icmp_answer;
 pub use refused::ReportRefused;
 pub use report::read_report;
 pub use round::print_round;

@@ -1,12 +1,15 @@
 //! A line of a report outside its listings.
-ghost use Rattle.std.specs.Prelude.{◌≡◌, [], IfOk};
+ghost use Rattle.std.specs.Prelude.{◌≡◌, codes, IfOk};
+ghost use Rattle.std.specs.List.{list_all};
 ghost use Rattle.std.specs.Option.{option_map};
 ghost use Rattle.lvs_types.specs.declared.report.ReportLine.TheVariants as line;
-ghost use Rattle.lvs_model.specs.ReportReading.{head_line_of, act_line_of, listing_line_of, line_of};
+ghost use Rattle.lvs_model.specs.ReportReading.{head_line_of, act_line_of, listing_line_of, line_of, table_named, is_lower_digit, lower_bytes, or_else, error_named, shown_named};
+ghost use Rattle.lvs_types.specs.declared.book.Shown.TheVariants as Kind;
 ghost use Rattle.lvs_report.specs.Reader.{act_from};
 
 use crate::cutting::{behind, number_up_to};
 use crate::numbers::plain_number;
+use hex::FromHexError;
 use lvs_types::{Bytes, NoMemory, ReportLine, Shown, ShownText};
 use std::alloc::Global;
 
@@ -77,8 +80,9 @@ fn act_line_of(alloc: Global, text: &[u8]) -> Result<Option<ReportLine>, NoMemor
     }
 }
 
-fn kind_of(text: &[u8]) -> Option<Shown>
-    ensures { option_map (λ kind. line.Shown (record { kind = kind; text = [] })) result ≡ listing_line_of text.now }
+/// `list`, `conns` or `save`.
+fn table_named(text: &[u8]) -> Option<Shown>
+    ensures { result ≡ table_named text.now }
 {
     if text == b"list".as_slice() {
         Some(Shown::List)
@@ -91,13 +95,87 @@ fn kind_of(text: &[u8]) -> Option<Shown>
     }
 }
 
-/// The first line of a listing: a listing without lines so far.
-fn listing_line_of(alloc: Global, text: &[u8]) -> Option<ReportLine>
-    ensures { result ≡ listing_line_of text.now }
+fn is_lower_digit(byte: u8) -> bool
+    ensures { result ≡ is_lower_digit byte }
 {
-    let kind = kind_of(text)?;
+    byte.is_ascii_digit() || (b'a'..=b'f').contains(&byte)
+}
+
+fn are_lower_digits(digits: &[u8]) -> bool
+    ensures { result ≡ list_all is_lower_digit digits.now }
+{
+    digits.iter().all(|byte| is_lower_digit(*byte))
+}
+
+/// An even number of lower-case hexadecimal digits, at least two.
+fn lower_bytes(alloc: Global, digits: &[u8]) -> Result<Option<Bytes>, NoMemory>
+    ensures { IfOk result (λ bytes. bytes ≡ lower_bytes digits.now) }
+{
+    if digits.is_empty() || !are_lower_digits(digits) {
+        return Ok(None);
+    }
+    match hex::decode(alloc, digits) {
+        Ok(bytes) => Ok(Some(Bytes::from_vec(bytes))),
+        Err(FromHexError::OutOfMemory) => Err(NoMemory),
+        Err(_) => Ok(None),
+    }
+}
+
+/// `icmp in HEX`.
+fn inward_named(alloc: Global, text: &[u8]) -> Result<Option<Shown>, NoMemory>
+    ensures { IfOk result (λ kind. kind ≡ error_named (codes "icmp in ") Kind.IcmpIn text.now) }
+{
+    let Some(digits) = behind(b"icmp in ", text) else {
+        return Ok(None);
+    };
+    match lower_bytes(alloc, digits)? {
+        Some(bytes) => Ok(Some(Shown::IcmpIn(bytes))),
+        None => Ok(None),
+    }
+}
+
+/// `icmp out HEX`.
+fn outward_named(alloc: Global, text: &[u8]) -> Result<Option<Shown>, NoMemory>
+    ensures { IfOk result (λ kind. kind ≡ error_named (codes "icmp out ") Kind.IcmpOut text.now) }
+{
+    let Some(digits) = behind(b"icmp out ", text) else {
+        return Ok(None);
+    };
+    match lower_bytes(alloc, digits)? {
+        Some(bytes) => Ok(Some(Shown::IcmpOut(bytes))),
+        None => Ok(None),
+    }
+}
+
+/// The answer to an ICMP error from either side.
+fn error_named(alloc: Global, text: &[u8]) -> Result<Option<Shown>, NoMemory>
+    ensures { IfOk result (λ kind. kind ≡ or_else (error_named (codes "icmp in ") Kind.IcmpIn text.now) (error_named (codes "icmp out ") Kind.IcmpOut text.now)) }
+{
+    match inward_named(alloc, text)? {
+        Some(kind) => Ok(Some(kind)),
+        None => outward_named(alloc, text),
+    }
+}
+
+/// What a first line shows: `list`, `conns`, `save`, `icmp in HEX` or `icmp out HEX`.
+fn shown_named(alloc: Global, text: &[u8]) -> Result<Option<Shown>, NoMemory>
+    ensures { IfOk result (λ kind. kind ≡ shown_named text.now) }
+{
+    match table_named(text) {
+        Some(kind) => Ok(Some(kind)),
+        None => error_named(alloc, text),
+    }
+}
+
+/// The first line of a listing: a listing without lines so far.
+fn listing_line_of(alloc: Global, text: &[u8]) -> Result<Option<ReportLine>, NoMemory>
+    ensures { IfOk result (λ line. line ≡ listing_line_of text.now) }
+{
+    let Some(kind) = shown_named(alloc, text)? else {
+        return Ok(None);
+    };
     let text = Bytes::new(alloc);
-    Some(ReportLine::Shown(ShownText { kind, text }))
+    Ok(Some(ReportLine::Shown(ShownText { kind, text })))
 }
 
 /// A head, an act or the first line of a listing.
@@ -110,5 +188,5 @@ pub(crate) fn line_of(alloc: Global, text: &[u8]) -> Result<Option<ReportLine>, 
     if let Some(act) = act_line_of(alloc, text)? {
         return Ok(Some(act));
     }
-    Ok(listing_line_of(alloc, text))
+    listing_line_of(alloc, text)
 }
