@@ -3,12 +3,12 @@ use Rattle.std.proofs.Common.{◌≡◌, ◌<◌, ◌≤◌, true, false, refl, 
 use Rattle.lvs_model.specs.ExampleItems.{web, tunnel_source}
 use Rattle.lvs_model.specs.Same.{key_eq, service_key_eq, template_key_eq}
 use Rattle.lvs_model.specs.WellFormed.{IsWellFormed, place_eq, place_of}
-use Rattle.lvs_well_formed.specs.Broken.{HasBroken, empty, entry_from, removed_server, template_from, two_services_of_a_key, two_entries_of_a_key, two_templates_of_a_key, an_entry_of_the_next_id, two_servers_of_an_id, a_template_of_id_0, two_servers_at_a_place, a_server_without_a_service, a_lower_threshold_above, a_cursor_at_no_server, an_entry_of_no_server, a_template_of_no_server, an_entry_that_goes_elsewhere, an_entry_of_the_next_template, a_tcp_entry_without_a_state, a_record_that_waits_for_no_master}
+use Rattle.lvs_well_formed.specs.Broken.{HasBroken, empty_state, entry_from, removed_server, template_from, two_services_of_a_key, two_entries_of_a_key, two_templates_of_a_key, an_entry_of_the_next_id, two_servers_of_an_id, a_template_of_id_0, two_servers_at_a_place, a_server_without_a_service, a_lower_threshold_above, a_cursor_at_no_server, an_entry_of_no_server, a_template_of_no_server, an_entry_that_goes_elsewhere, an_entry_of_the_next_template, a_tcp_entry_without_a_state, a_record_that_waits_for_no_master}
 use Rattle.lvs_well_formed.proofs.Distinct.{distinct_none, distinct_cons, distinct_parts}
 use Rattle.lvs_well_formed.proofs.Steps.{initial_well_formed}
 
 -- where nothing is added, all holds as at the beginning
-w : IsWellFormed empty
+w : IsWellFormed empty_state
 w = initial_well_formed tunnel_source 1
 
 pub breaks_service_keys : HasBroken 1 two_services_of_a_key

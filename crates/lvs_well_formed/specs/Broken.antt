@@ -1,20 +1,13 @@
--- States in which all lines of the well formed state hold but one.
-use Rattle.std.specs.Prelude.{◌≡◌, ◌==◌, ◌+◌, ℕ, Bool, true, false, List, [], ◌∷◌, Option, Some, None, nat_eq}
+-- Example states: one that is well formed, and for each line of the definition one in which that line alone doesn't hold.
+use Rattle.std.specs.Prelude.{◌≡◌, ◌==◌, ◌+◌, ℕ, Bool, true, false, [], ◌∷◌, Some, None}
 use Rattle.std.specs.List.{AllByRecursion, IsDistinct}
-use Rattle.lvs_types.specs.declared.addr.Addr.{Addr}
-use Rattle.lvs_types.specs.declared.addr.DestId.{DestId}
-use Rattle.lvs_types.specs.declared.addr.TemplateId.{TemplateId}
 use Rattle.lvs_types.specs.declared.service.Proto.TheVariants.{Tcp}
 use Rattle.lvs_types.specs.declared.service.Method.TheVariants.{Direct}
 use Rattle.lvs_types.specs.declared.dest.Dest.{Dest}
-use Rattle.lvs_types.specs.declared.dest.DestSpec.{DestSpec}
-use Rattle.lvs_types.specs.declared.entry.Key.{Key}
 use Rattle.lvs_types.specs.declared.entry.Entry.{Entry}
-use Rattle.lvs_types.specs.declared.entry.TcpState.{TcpState}
 use Rattle.lvs_types.specs.declared.entry.TcpState.TheVariants.{Established}
-use Rattle.lvs_types.specs.declared.template.TemplateKey.{TemplateKey}
 use Rattle.lvs_types.specs.declared.template.Template.{Template}
-use Rattle.lvs_model.specs.ExampleItems.{web, service_with, direct_server, server_addr, virtual_addr, tunnel_source}
+use Rattle.lvs_model.specs.ExampleItems.{web, service_with, direct_server, server_addr, virtual_addr, tunnel_source, add_example_service, add_web_server, syn, left_by}
 use Rattle.lvs_model.specs.State.{State, initial}
 use Rattle.lvs_model.specs.Same.{key_eq, service_key_eq, template_key_eq}
 use Rattle.lvs_model.specs.SyncRules.{of_entry}
@@ -80,71 +73,75 @@ template_from id n = record {
   deadline = 300;
 }
 
-abbrev pub empty : State
-empty = initial tunnel_source 1
+abbrev pub empty_state : State
+empty_state = initial tunnel_source 1
+
+-- three SYNs went to a service of two servers
+abbrev pub after_three_syns : State
+after_three_syns = left_by (add_example_service web None ∷ add_web_server 1 ∷ add_web_server 2 ∷ syn 40000 ∷ syn 40001 ∷ syn 40002 ∷ [])
 
 -- STATES
 
 -- two services of one key
 abbrev pub two_services_of_a_key : State
-two_services_of_a_key = record empty { services = service_with web None ∷ service_with web (Some 300) ∷ [] }
+two_services_of_a_key = record empty_state { services = service_with web None ∷ service_with web (Some 300) ∷ [] }
 
 -- two connections of one key
 abbrev pub two_entries_of_a_key : State
-two_entries_of_a_key = record empty { entries = entry_from 1 40000 ∷ entry_from 2 40000 ∷ []; next_entry = 3 }
+two_entries_of_a_key = record empty_state { entries = entry_from 1 40000 ∷ entry_from 2 40000 ∷ []; next_entry = 3 }
 
 -- two templates of one key
 abbrev pub two_templates_of_a_key : State
-two_templates_of_a_key = record empty { templates = template_from 1 9 ∷ template_from 2 9 ∷ []; next_template = 3 }
+two_templates_of_a_key = record empty_state { templates = template_from 1 9 ∷ template_from 2 9 ∷ []; next_template = 3 }
 
 -- a connection with the id that is to be drawn next
 abbrev pub an_entry_of_the_next_id : State
-an_entry_of_the_next_id = record empty { entries = entry_from 1 40000 ∷ [] }
+an_entry_of_the_next_id = record empty_state { entries = entry_from 1 40000 ∷ [] }
 
 -- two servers of one id
 abbrev pub two_servers_of_an_id : State
-two_servers_of_an_id = record empty { dests = removed_server 1 1 ∷ removed_server 1 2 ∷ []; next_dest = 2 }
+two_servers_of_an_id = record empty_state { dests = removed_server 1 1 ∷ removed_server 1 2 ∷ []; next_dest = 2 }
 
 -- a template of id 0
 abbrev pub a_template_of_id_0 : State
-a_template_of_id_0 = record empty { templates = template_from 0 9 ∷ [] }
+a_template_of_id_0 = record empty_state { templates = template_from 0 9 ∷ [] }
 
 -- two removed servers at one place
 abbrev pub two_servers_at_a_place : State
-two_servers_at_a_place = record empty { dests = removed_server 1 1 ∷ removed_server 2 1 ∷ []; next_dest = 3 }
+two_servers_at_a_place = record empty_state { dests = removed_server 1 1 ∷ removed_server 2 1 ∷ []; next_dest = 3 }
 
 -- a live server whose service is gone
 abbrev pub a_server_without_a_service : State
-a_server_without_a_service = record empty { dests = record (removed_server 1 1) { live = true } ∷ []; next_dest = 2 }
+a_server_without_a_service = record empty_state { dests = record (removed_server 1 1) { live = true } ∷ []; next_dest = 2 }
 
 -- a server with a lower threshold above the upper one
 abbrev pub a_lower_threshold_above : State
-a_lower_threshold_above = record empty { dests = record (removed_server 1 1) { spec = record (direct_server 1 80 1 1) { lower = 2 } } ∷ []; next_dest = 2 }
+a_lower_threshold_above = record empty_state { dests = record (removed_server 1 1) { spec = record (direct_server 1 80 1 1) { lower = 2 } } ∷ []; next_dest = 2 }
 
 -- a service whose cursor names a server that is gone
 abbrev pub a_cursor_at_no_server : State
-a_cursor_at_no_server = record empty { services = record (service_with web None) { cursor = record { last = Some (record { 0 = 1 }); cw = 0 } } ∷ [] }
+a_cursor_at_no_server = record empty_state { services = record (service_with web None) { cursor = record { last = Some (record { 0 = 1 }); cw = 0 } } ∷ [] }
 
 -- a connection that names a server that is gone
 abbrev pub an_entry_of_no_server : State
-an_entry_of_no_server = record empty { entries = record (entry_from 1 40000) { server = Some (record { 0 = 1 }) } ∷ []; next_entry = 2 }
+an_entry_of_no_server = record empty_state { entries = record (entry_from 1 40000) { server = Some (record { 0 = 1 }) } ∷ []; next_entry = 2 }
 
 -- a template that names a server that is gone
 abbrev pub a_template_of_no_server : State
-a_template_of_no_server = record empty { templates = record (template_from 1 9) { server = Some (record { 0 = 1 }) } ∷ []; next_template = 2 }
+a_template_of_no_server = record empty_state { templates = record (template_from 1 9) { server = Some (record { 0 = 1 }) } ∷ []; next_template = 2 }
 
 -- a bound connection that goes to another address than its server has
 abbrev pub an_entry_that_goes_elsewhere : State
-an_entry_that_goes_elsewhere = record empty { dests = removed_server 1 2 ∷ []; next_dest = 2; entries = record (entry_from 1 40000) { server = Some (record { 0 = 1 }) } ∷ []; next_entry = 2 }
+an_entry_that_goes_elsewhere = record empty_state { dests = removed_server 1 2 ∷ []; next_dest = 2; entries = record (entry_from 1 40000) { server = Some (record { 0 = 1 }) } ∷ []; next_entry = 2 }
 
 -- a connection made by the template that is to be drawn next
 abbrev pub an_entry_of_the_next_template : State
-an_entry_of_the_next_template = record empty { entries = record (entry_from 1 40000) { template = Some (record { 0 = 1 }) } ∷ []; next_entry = 2 }
+an_entry_of_the_next_template = record empty_state { entries = record (entry_from 1 40000) { template = Some (record { 0 = 1 }) } ∷ []; next_entry = 2 }
 
 -- a TCP connection without a state
 abbrev pub a_tcp_entry_without_a_state : State
-a_tcp_entry_without_a_state = record empty { entries = record (entry_from 1 40000) { state = None } ∷ []; next_entry = 2 }
+a_tcp_entry_without_a_state = record empty_state { entries = record (entry_from 1 40000) { state = None } ∷ []; next_entry = 2 }
 
 -- a sync record that waits where no master daemon runs
 abbrev pub a_record_that_waits_for_no_master : State
-a_record_that_waits_for_no_master = record empty { pending = of_entry (entry_from 1 40000) ∷ [] }
+a_record_that_waits_for_no_master = record empty_state { pending = of_entry (entry_from 1 40000) ∷ [] }
