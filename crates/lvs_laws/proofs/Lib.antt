@@ -18,3 +18,4 @@ pub mod SaveNumbers
 pub mod SaveWords
 pub mod SaveLines
 pub mod TakenUp
+pub mod LegalBooks

@@ -1,5 +1,5 @@
 -- A packet that meets the test of reuse takes up the connection's place, or is too long for its new tunnel.
-use Rattle.std.proofs.Common.{◌≡◌, ◌==◌, ◌<◌, ℕ, Bool, true, false, cond, not, List, Option, Some, None, Result, refl, sym, ap, subst, ◌∙◌, map, slice_get, nat_lt}
+use Rattle.std.proofs.Common.{◌≡◌, ◌<◌, ℕ, Bool, true, false, cond, not, List, Option, Some, None, Result, refl, sym, subst, ◌∙◌, map, slice_get, nat_lt}
 use Rattle.std.proofs.lemmas.Bool.{ltb-true}
 use Rattle.std.specs.List.{AllByRecursion, find}
 use Rattle.lvs_types.specs.Transport.{transport_of}
@@ -29,7 +29,7 @@ use Rattle.lvs_model.specs.Persistence.{template_key, usable_server}
 use Rattle.lvs_model.specs.Packets.{Packet, key_of, may_connect}
 use Rattle.lvs_model.specs.Binding.{template_tried, put_template}
 use Rattle.lvs_model.specs.Forwarding.{forwarded}
-use Rattle.lvs_model.specs.Scheduling.{enter, connect_to, is_one_packet, new_entry, take_pick, new_template, replace_template, with_cursor, pick_at, picked, schedule, use_template, try_template, persist_by, serve_packet, admit, connect, renewed, connection_port}
+use Rattle.lvs_model.specs.Scheduling.{enter, connect_to, is_one_packet, new_entry, take_pick, new_template, replace_template, with_cursor, pick_at, picked, schedule, use_template, try_template, persist_by, serve_packet, admit, connect, renewed, connection_port, connection_port}
 use Rattle.lvs_model.specs.Incoming.{end_entry, continue, arrive, take_back, incoming_of, incoming_read}
 use Rattle.lvs_model.specs.WellFormed.{IsWellFormed}
 use Rattle.lvs_model.proofs.OrderLemmas.{find_none}

@@ -1,19 +1,22 @@
 -- What the worked examples of the laws Keep and Takeover run: one connection, and the record of one.
-use Rattle.std.specs.Prelude.{true, false, [], ◌∷◌, Some, None}
+use Rattle.std.specs.Prelude.{ℕ, true, false, [], ◌∷◌, Some, None}
 use Rattle.lvs_types.specs.declared.addr.Addr.{Addr}
 use Rattle.lvs_types.specs.declared.head.Head.{Head}
 use Rattle.lvs_types.specs.declared.service.Proto.TheVariants.{Tcp}
-use Rattle.lvs_types.specs.declared.service.Method.TheVariants.{Direct}
+use Rattle.lvs_types.specs.declared.service.Method.TheVariants.{Tunnel, Direct}
 use Rattle.lvs_types.specs.declared.command.Command.TheVariants as command
 use Rattle.lvs_types.specs.declared.settings.Setting.TheVariants.{ExpireNodest}
 use Rattle.lvs_types.specs.declared.entry.Key.{Key}
 use Rattle.lvs_types.specs.declared.entry.Entry.{Entry}
-use Rattle.lvs_types.specs.declared.entry.TcpState.TheVariants.{SynRecv, Established}
+use Rattle.lvs_types.specs.declared.entry.TcpState.TheVariants.{SynRecv, Established, TimeWait}
 use Rattle.lvs_types.specs.declared.item.Item.{Item}
 use Rattle.lvs_types.specs.declared.item.Item.TheVariants as item
+use Rattle.lvs_types.specs.declared.sync.SyncItem.TheVariants.{V4}
 use Rattle.lvs_types.specs.declared.sync.SyncRecord.{SyncRecord}
-use Rattle.lvs_model.specs.ExampleItems.{virtual_addr, server_addr, web, direct_server, add_example_service, add_web_server, syn, left_by}
+use Rattle.lvs_model.specs.ExampleItems.{virtual_addr, server_addr, web, direct_server, add_example_service, add_web_server, syn, left_by, add_example_service}
+use Rattle.lvs_model.specs.Packets.{Packet}
 use Rattle.lvs_model.specs.State.{State}
+use Rattle.lvs_model.specs.Step.{step}
 
 -- 172.16.0.9
 abbrev pub client_addr : Addr
@@ -120,3 +123,19 @@ ack_head = record {
   fin = false;
   rst = false;
 }
+
+-- A TUNNEL
+
+abbrev pub add_tunnel_server : ℕ → Item
+add_tunnel_server n = item.Edit (command.AddServer web (record (direct_server n 80 1 0) { method = Tunnel }))
+
+-- a backup with a server behind a tunnel, where the recorded connection is in TIME_WAIT
+abbrev pub tunnel_waiting : State
+tunnel_waiting = (step (left_by (add_example_service web None ∷ add_tunnel_server 1 ∷ start_backup ∷ [])) (item.Learn 7 (V4 recorded_waiting))).1
+
+abbrev pub recorded_as_waiting : Entry
+recorded_as_waiting = record recorded_entry { state = Some TimeWait; server = None }
+
+-- a SYN of the client of so many bytes
+abbrev pub syn_of : ℕ → Packet
+syn_of total = record { mark = 0; proto = Tcp; head = record ack_head { total = total; syn = true; ack = false }; bytes = [] }

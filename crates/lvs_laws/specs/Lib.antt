@@ -4,3 +4,4 @@ pub mod KeepExamples
 pub mod Releasing
 pub mod ReleaseExamples
 pub mod Saying
+pub mod BookExamples

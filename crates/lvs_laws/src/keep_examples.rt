@@ -1,5 +1,5 @@
 //! Worked examples of the laws Keep and Takeover: states that meet what they ask, and each way in which a connection leaves.
-ghost use Rattle.std.specs.Prelude.{◌≡◌, ◌++◌, false, List, [], ◌∷◌, Option, Some, None};
+ghost use Rattle.std.specs.Prelude.{◌≡◌, ◌++◌, true, false, List, [], ◌∷◌, Option, Some, None};
 ghost use Rattle.std.specs.Option.{option_map};
 ghost use Rattle.lvs_types.specs.declared.addr.Addr.{Addr};
 ghost use Rattle.lvs_types.specs.declared.addr.DestId.{DestId};
@@ -9,12 +9,13 @@ ghost use Rattle.lvs_types.specs.declared.reply.DropCause.TheVariants as drops;
 ghost use Rattle.lvs_types.specs.declared.reply.Reply.TheVariants as reply;
 ghost use Rattle.lvs_types.specs.declared.service.Proto.TheVariants.{Tcp};
 ghost use Rattle.lvs_types.specs.declared.sync.SyncItem.TheVariants.{V4};
-ghost use Rattle.lvs_model.specs.ExampleItems.{ack, add_example_service, add_web_server, direct_to, remove_web_server, server_addr, syn, web_packet, web};
+ghost use Rattle.lvs_model.specs.ExampleItems.{ack, add_example_service, add_web_server, direct_to, remove_web_server, server_addr, syn, web_packet, web, add_example_service, web_packet};
+ghost use Rattle.lvs_model.specs.Incoming.{incoming_packet};
 ghost use Rattle.lvs_model.specs.Lookups.{entry_at};
 ghost use Rattle.lvs_model.specs.Step.{step, run};
 ghost use Rattle.lvs_model.specs.WellFormed.{IsWellFormed};
-ghost use Rattle.lvs_laws.specs.Keeping.{entry_of_id};
-ghost use Rattle.lvs_laws.specs.KeepExamples.{one_connection, its_entry, end_nodest, take_weight, start_backup, recorded, recorded_waiting, backup, bare_backup, client_key, recorded_entry, ack_head};
+ghost use Rattle.lvs_laws.specs.Keeping.{entry_of_id, is_reused_by};
+ghost use Rattle.lvs_laws.specs.KeepExamples.{one_connection, its_entry, end_nodest, take_weight, start_backup, recorded, recorded_waiting, backup, bare_backup, client_key, recorded_entry, ack_head, tunnel_waiting, recorded_as_waiting, syn_of};
 ghost use Rattle.lvs_laws.specs.TakingOver.{IsPlainPacketOf, IsTakenOver, after_record};
 
 /// A bound connection in a well formed state keeps its server through packets, the removal of that server, and
@@ -55,4 +56,13 @@ pub fn a_connection_is_taken_over()
 pub fn packets_that_are_not_sent_on()
     ensures gone { (step (run (after_record backup 7 recorded) (remove_web_server 2 ∷ [])).1 (ack 40000)).0 ≡ reply.Drop drops.Gone }
     ensures reused { (step (after_record backup 7 recorded_waiting) (syn 40000)).0 ≡ direct_to 1 (web_packet 40000 2) }
+{}
+
+/// A SYN of the longest tunnel packet takes up the place of a connection in TIME_WAIT. One that is a byte
+/// longer is dropped, and the connection and all else stay.
+pub fn a_syn_may_be_too_long()
+    ensures reuses { is_reused_by tunnel_waiting recorded_as_waiting (syn_of 65516) ≡ true }
+    ensures there { entry_at client_key tunnel_waiting.entries ≡ Some recorded_as_waiting }
+    ensures too_long { incoming_packet tunnel_waiting (syn_of 65516) ≡ (reply.Drop drops.TooLong, tunnel_waiting) }
+    ensures taken_up { entry_of_id 1 (incoming_packet tunnel_waiting (syn_of 65515)).1.entries ≡ None }
 {}
