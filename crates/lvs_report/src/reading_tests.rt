@@ -97,6 +97,12 @@ fn refuses_the_first_line_outside_the_grammar(rt: HostRuntime) {
         ("list\nx\nend", 3),
         ("list\nx\nend\r\n", 4),
         ("list\nEND\n", 3),
+        ("icmp in 45FF\nend\n", 1),
+        ("icmp in 45f\nend\n", 1),
+        ("icmp out \nend\n", 1),
+        ("icmp up 45\nend\n", 1),
+        ("icmp  in 45\nend\n", 1),
+        ("icmp in 45\npass\n", 3),
     ] {
         let refused = match read_report(alloc, text.as_bytes()) {
             Err(ReportRefused::Unreadable { line }) => Some(line),
@@ -124,6 +130,10 @@ fn reads_a_printed_round(rt: HostRuntime) -> Result<(), Fail> {
         kind: Shown::Conns,
         text: Bytes::copied(alloc, b"ends\n\n")?,
     })?;
+    shown.push(ShownText {
+        kind: Shown::IcmpOut(Bytes::copied(alloc, &[0x45, 0xff])?),
+        text: Bytes::copied(alloc, b"pass\n")?,
+    })?;
     let book = RoundBook {
         number: 3,
         moment: 60,
@@ -142,6 +152,11 @@ fn reads_a_printed_round(rt: HostRuntime) -> Result<(), Fail> {
         act(alloc, 1, 1, 1, b"ok")?,
         act(alloc, 2, 1, 2, b"pass")?,
         listing(alloc, Shown::Conns, b"ends\n\n")?,
+        listing(
+            alloc,
+            Shown::IcmpOut(Bytes::copied(alloc, &[0x45, 0xff])?),
+            b"pass\n",
+        )?,
     ];
     let text = print_round(alloc, &book)?;
     assert_eq!(rt;

@@ -1,7 +1,7 @@
 //! One line for each text of a reply.
-use crate::print_round;
+use crate::{print_icmp_answer, print_round};
 use lvs_types::{
-    Addr, BadSync, Bytes, DropCause, EditRefused, Item, Learnt, Listed, Malformed, Method,
+    Addr, BadSync, Bytes, DropCause, EditRefused, IcmpAnswer, Item, Learnt, Listed, Malformed, Method,
     NoMemory, Noted, Reply, RoundBook, Shown, ShownText,
 };
 use std::alloc::Global;
@@ -193,5 +193,30 @@ fn listings_end_with_end(rt: HostRuntime) -> Result<(), Fail> {
         text.as_slice(),
         b"round 2 at 4294967295 workers 16 buckets 256\nlist\nx\nend\nconns\nend\nsave\ny\nz\nend\nicmp in 45\npass\nend\nicmp out 46\npass\nend\n".as_slice()
     );
+    Ok(())
+}
+
+#[test]
+fn answers_to_errors(rt: HostRuntime) -> Result<(), Fail> {
+    let alloc = rt.alloc();
+    let to_server = IcmpAnswer::ToServer {
+        to: Addr {
+            number: 0xC0A8_0001,
+        },
+        bytes: copied(alloc, &[0x45, 0xff])?,
+    };
+    let to_client = IcmpAnswer::ToClient(copied(alloc, &[0xa0])?);
+    let malformed = IcmpAnswer::Malformed(Malformed::HeaderSum);
+    for (answer, line) in [
+        (to_server, "fwd masq 192.168.0.1 45ff\n"),
+        (to_client, "out a0\n"),
+        (IcmpAnswer::Pass, "pass\n"),
+        (IcmpAnswer::Gone, "drop gone\n"),
+        (IcmpAnswer::BadSum, "drop icmpsum\n"),
+        (malformed, "drop malformed headersum\n"),
+    ] {
+        let text = print_icmp_answer(alloc, &answer)?;
+        assert_eq!(rt; text.as_slice(), line.as_bytes());
+    }
     Ok(())
 }

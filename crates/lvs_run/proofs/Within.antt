@@ -180,6 +180,7 @@ keep_kind name.Sync words s = keep_round_line name.Sync words s
 keep_kind name.List words s = keep_round_line name.List words s
 keep_kind name.Conns words s = keep_round_line name.Conns words s
 keep_kind name.Save words s = keep_round_line name.Save words s
+keep_kind name.Icmp words s = keep_round_line name.Icmp words s
 
 abbrev placed : List (List ℕ) → ScriptRead → LineName → Result ScriptRead ScriptCause
 placed words s kind = checked_place kind s >>= (λ (_ : Unit {0}). take_kind kind words s)

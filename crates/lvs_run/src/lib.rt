@@ -25,6 +25,8 @@ pub use streams::{Served, serve_streams};
 #[cfg(test)]
 mod fault_tests;
 #[cfg(test)]
+mod icmp_rows;
+#[cfg(test)]
 mod rows;
 #[cfg(test)]
 mod tests;

@@ -152,7 +152,8 @@ const ROWS: &[Row] = &[
     },
 ];
 
-fn reported(alloc: Global, script: &[u8]) -> Result<(Status, Vec<u8>), NoMemory> {
+/// The status of a script, and its report.
+pub(crate) fn reported(alloc: Global, script: &[u8]) -> Result<(Status, Vec<u8>), NoMemory> {
     let mut words = Vec::new(alloc);
     words.push(String::from_str(alloc, "serial")?)?;
     let mut source = MemSource::new(script.to_vec(alloc)?, 4096, Vec::new(alloc));

@@ -1,0 +1,6 @@
+pub mod Least
+pub mod Messages
+pub mod Headers
+pub mod Restored
+pub mod Masked
+pub mod Going
