@@ -10,6 +10,7 @@ use Rattle.lvs_model.specs.Lookups.{has_key, has_entry_id, entry_at}
 use Rattle.lvs_model.proofs.OrderLemmas.{all_weaker, all_insert, find_none}
 use Rattle.lvs_entries.proofs.Belonging.{key_same}
 use Rattle.lvs_timer.specs.Timers.{has_id}
+use Rattle.lvs_times.specs.declared.load.Load.{Load}
 use Rattle.lvs_times.specs.Numbered.{IsBelow, IsTimed, deadline_by}
 
 fails : {X : Type 0} (p : X → Bool) (x : X) (b : Bool) → p x ≡ b → (p x ≡ true → ⊥) → p x ≡ false
@@ -36,5 +37,5 @@ pub timers_below : (n deadline : ℕ) (ts : List Timer) → AllByRecursion (λ (
 timers_below n deadline ts all =
     all_insert (λ (t : Timer). t.id < n + 1) (λ (t : Timer). t.id) (record { id = n; deadline = deadline }) ts (omega arith) (all_weaker (λ (t : Timer). t.id < n) (λ (t : Timer). t.id < n + 1) (λ t less. omega arith) ts all)
 
-pub timers_timed : (count n deadline : ℕ) (ts : List Timer) → n < 2 ^ 32 → deadline ≡ deadline_by count n → AllByRecursion (IsTimed count) ts → AllByRecursion (IsTimed count) (insert_by (λ (t : Timer). t.id) (record { id = n; deadline = deadline }) ts)
-timers_timed count n deadline ts few is all = all_insert (IsTimed count) (λ (t : Timer). t.id) (record { id = n; deadline = deadline }) ts (few, is) all
+pub timers_timed : (load : Load) (n deadline : ℕ) (ts : List Timer) → n < 2 ^ 32 → deadline ≡ deadline_by load n → AllByRecursion (IsTimed load) ts → AllByRecursion (IsTimed load) (insert_by (λ (t : Timer). t.id) (record { id = n; deadline = deadline }) ts)
+timers_timed load n deadline ts few is all = all_insert (IsTimed load) (λ (t : Timer). t.id) (record { id = n; deadline = deadline }) ts (few, is) all

@@ -3,6 +3,7 @@ ghost use Rattle.std.specs.Prelude.{◌≡◌, ◌<◌, ◌^◌, [], OnOk};
 ghost use Rattle.std.specs.List.{AllByRecursion};
 ghost use Rattle.lvs_times.specs.Numbered.{deadline_by, IsTimed};
 
+use crate::load::{Load, Timeouts};
 use lvs_entries::Entries;
 use lvs_timer::Timers;
 use lvs_types::{Addr, Entry, Key, Method, NoMemory, Proto};
@@ -59,25 +60,30 @@ pub(crate) fn put_all(entries: &mut Entries, count: u32) -> Result<(), NoMemory>
     Ok(())
 }
 
-/// The deadline of an id: the ids are due in ten moments, one tenth after the other.
-pub(crate) fn deadline_of(id: u64, count: u32) -> u64
+/// The deadline of an id.
+pub(crate) fn deadline_of(id: u64, load: Load) -> u64
     requires few { id < 2 ^ 32 }
-    requires some { 0 < count }
-    ensures { result ≡ deadline_by count id }
+    requires some { 0 < load.count }
+    ensures { result ≡ deadline_by load id }
 {
-    60 + id * 10 / u64::from(count)
+    let count = u64::from(load.count);
+    match load.timeouts {
+        Timeouts::One => 60 + id * 10 / count,
+        Timeouts::Two => 60 + id * 5 / count + id % 2 * 5,
+        Timeouts::Ten => 60 + id % 10,
+    }
 }
 
 /// Arms so many ids, numbered from 0 on.
-pub(crate) fn arm_all(timers: &mut Timers, count: u32) -> Result<(), NoMemory>
+pub(crate) fn arm_all(timers: &mut Timers, load: Load) -> Result<(), NoMemory>
     requires none { timers.old.timers ≡ [] }
-    requires some { 0 < count }
-    ensures { OnOk result (AllByRecursion (IsTimed count) timers.new.timers) }
+    requires some { 0 < load.count }
+    ensures { OnOk result (AllByRecursion (IsTimed load) timers.new.timers) }
 {
-    for number in 0..count {
+    for number in 0..load.count {
         let id = u64::from(number);
         timers.reserve()?;
-        timers.arm(id, deadline_of(id, count));
+        timers.arm(id, deadline_of(id, load));
     }
     Ok(())
 }

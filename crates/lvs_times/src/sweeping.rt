@@ -4,6 +4,7 @@ ghost use Rattle.std.specs.List.{AllByRecursion};
 ghost use Rattle.lvs_times.specs.Numbered.{IsTimed};
 
 use crate::filling::deadline_of;
+use crate::load::Load;
 use lvs_entries::Entries;
 use lvs_timer::Timers;
 use lvs_types::NoMemory;
@@ -19,16 +20,16 @@ fn sweep(
     alloc: Global,
     entries: &mut Entries,
     timers: &mut Timers,
-    count: u32,
+    load: Load,
     now: u64,
 ) -> Result<usize, NoMemory>
-    requires timed { AllByRecursion (IsTimed count) timers.old.timers }
-    requires some { 0 < count }
-    ensures { AllByRecursion (IsTimed count) timers.new.timers }
+    requires timed { AllByRecursion (IsTimed load) timers.old.timers }
+    requires some { 0 < load.count }
+    ensures { AllByRecursion (IsTimed load) timers.new.timers }
 {
     let due = timers.due(alloc, now)?;
     for id in &due {
-        timers.disarm(*id, deadline_of(*id, count));
+        timers.disarm(*id, deadline_of(*id, load));
         entries.remove(*id);
     }
     Ok(due.len())
@@ -39,14 +40,14 @@ pub(crate) fn sweep_all(
     alloc: Global,
     entries: &mut Entries,
     timers: &mut Timers,
-    count: u32,
+    load: Load,
 ) -> Result<usize, NoMemory>
-    requires timed { AllByRecursion (IsTimed count) timers.old.timers }
-    requires some { 0 < count }
+    requires timed { AllByRecursion (IsTimed load) timers.old.timers }
+    requires some { 0 < load.count }
 {
     let mut swept: usize = 0;
     for now in FIRST..=LAST {
-        swept = swept.saturating_add(sweep(alloc, entries, timers, count, now)?);
+        swept = swept.saturating_add(sweep(alloc, entries, timers, load, now)?);
     }
     Ok(swept)
 }

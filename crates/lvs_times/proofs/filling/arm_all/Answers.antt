@@ -1,4 +1,4 @@
-use Rattle.std.proofs.Common.{arith}
+use Rattle.std.proofs.Common.{rules}
 use Rattle.lvs_times.proofs.Fresh.{new_timer, timers_below, timers_timed}
 use Rattle.lvs_times.proofs.filling.arm_all.Goals as goal
 
@@ -10,5 +10,5 @@ loop-number-preserved c = record {
   below = rw (c.arm.ensures.timers, c.from-id.ensures, c.in_ok-reserve.ensures.timers) (timers_below c.loop-number.number c.deadline_of.result c.loop-number.timers.timers c.loop-number.invariant.below);
   timed =
       rw (c.arm.ensures.timers, c.from-id.ensures, c.in_ok-reserve.ensures.timers)
-      (timers_timed c.args.count c.loop-number.number c.deadline_of.result c.loop-number.timers.timers (let fits = c.ranges.count.fits in omega arith) (rw c.from-id.ensures at c.deadline_of.ensures) c.loop-number.invariant.timed);
+      (timers_timed c.args.load c.loop-number.number c.deadline_of.result c.loop-number.timers.timers (search rules) (rw c.from-id.ensures at c.deadline_of.ensures) c.loop-number.invariant.timed);
 }

@@ -7,5 +7,5 @@ use Rattle.lvs_times.proofs.filling.arm_all.Given as goal
 abbrev pub invariant-loop-number : goal.invariant-loop-number
 invariant-loop-number l = record {
   below : AllByRecursion (λ (t : Timer). t.id < l.number) l.timers.timers;
-  timed : AllByRecursion (IsTimed l.count) l.timers.timers;
+  timed : AllByRecursion (IsTimed l.load) l.timers.timers;
 }

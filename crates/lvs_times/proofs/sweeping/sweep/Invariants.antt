@@ -6,7 +6,7 @@ use Rattle.lvs_times.proofs.sweeping.sweep.Given as goal
 
 abbrev pub invariant-loop-id : goal.invariant-loop-id
 invariant-loop-id l = record {
-  timed : AllByRecursion (IsTimed l.count) l.timers.timers;
+  timed : AllByRecursion (IsTimed l.load) l.timers.timers;
   rising : IsRising (drop l.id-index l.id-items);
-  armed : AllByRecursion (IsArmed l.count l.timers.timers) (drop l.id-index l.id-items);
+  armed : AllByRecursion (IsArmed l.load l.timers.timers) (drop l.id-index l.id-items);
 }
