@@ -3,27 +3,10 @@ ghost use Rattle.std.specs.Prelude.{◌≡◌, ◌+◌, ◌≤◌, ◌||◌, tru
 ghost use Rattle.lvs_headers.specs.Rest.{read_rest};
 ghost use Rattle.lvs_model.specs.Reading.{header_len_of, total_of, head_of, is_tcp, is_udp, is_tcp_short, is_udp_short};
 
-use crate::fields::{addr_at, forbids_fragments, header_len, is_fragment, total, word_at};
+use crate::fields::{forbids_fragments, header_len, is_fragment, total};
+use crate::numbers::{addr_at, word_at};
+use crate::{ipv4, tcp, udp};
 use lvs_types::{Head, Malformed};
-
-/// The protocols' numbers (RFC 9293, section 3.1; RFC 768).
-const TCP: u8 = 6;
-
-const UDP: u8 = 17;
-
-/// The shortest TCP header and the UDP header, in bytes.
-const TCP_HEADER: u16 = 20;
-
-const UDP_HEADER: u16 = 8;
-
-/// The places of the control bits in their byte, from the lowest (RFC 9293, section 3.1).
-const FIN: u32 = 0;
-
-const SYN: u32 = 1;
-
-const RST: u32 = 2;
-
-const ACK: u32 = 4;
 
 /// What the IP header says, its ports 0 and its flags false.
 fn ip_head(bytes: &[u8]) -> Head
@@ -33,14 +16,14 @@ fn ip_head(bytes: &[u8]) -> Head
     Head {
         header_len: header_len(bytes),
         total: total(bytes),
-        code: bytes[9],
-        tos: bytes[1],
-        id: word_at(bytes, 4),
+        code: bytes[ipv4::PROTOCOL],
+        tos: bytes[ipv4::TYPE_OF_SERVICE],
+        id: word_at(bytes, ipv4::IDENTIFICATION),
         dont_fragment: forbids_fragments(bytes),
         fragment: is_fragment(bytes),
-        ttl: bytes[8],
-        src: addr_at(bytes, 12),
-        dst: addr_at(bytes, 16),
+        ttl: bytes[ipv4::TIME_TO_LIVE],
+        src: addr_at(bytes, ipv4::SOURCE),
+        dst: addr_at(bytes, ipv4::DESTINATION),
         sport: 0,
         dport: 0,
         syn: false,
@@ -59,8 +42,8 @@ fn head_with_ports(bytes: &[u8]) -> Head
 {
     let at = usize::from(header_len(bytes));
     Head {
-        sport: word_at(bytes, at),
-        dport: word_at(bytes, at + 2),
+        sport: word_at(bytes, at + tcp::SOURCE_PORT),
+        dport: word_at(bytes, at + tcp::DESTINATION_PORT),
         ..ip_head(bytes)
     }
 }
@@ -72,12 +55,12 @@ fn head_with_flags(bytes: &[u8]) -> Head
     requires tcp { is_tcp bytes.now ≡ true }
     ensures { result ≡ head_of bytes.now }
 {
-    let flags = bytes[usize::from(header_len(bytes)) + 13];
+    let flags = bytes[usize::from(header_len(bytes)) + tcp::CONTROL_BITS];
     Head {
-        syn: (flags >> SYN) & 1 == 1,
-        ack: (flags >> ACK) & 1 == 1,
-        fin: (flags >> FIN) & 1 == 1,
-        rst: (flags >> RST) & 1 == 1,
+        syn: (flags >> tcp::SYN_BIT) & 1 == 1,
+        ack: (flags >> tcp::ACK_BIT) & 1 == 1,
+        fin: (flags >> tcp::FIN_BIT) & 1 == 1,
+        rst: (flags >> tcp::RST_BIT) & 1 == 1,
         ..head_with_ports(bytes)
     }
 }
@@ -92,11 +75,11 @@ fn read_tcp(bytes: &[u8]) -> Result<Head, Malformed>
 {
     let at = usize::from(header_len(bytes));
     let payload = total(bytes) - header_len(bytes);
-    if payload < TCP_HEADER {
+    if payload < tcp::SHORTEST {
         return Err(Malformed::L4Short);
     }
-    let data_offset = 4 * u16::from(bytes[at + 12] >> 4);
-    if data_offset < TCP_HEADER || payload < data_offset {
+    let data_offset = 4 * u16::from(bytes[at + tcp::DATA_OFFSET] >> 4);
+    if data_offset < tcp::SHORTEST || payload < data_offset {
         return Err(Malformed::L4Short);
     }
     Ok(head_with_flags(bytes))
@@ -110,7 +93,7 @@ fn read_udp(bytes: &[u8]) -> Result<Head, Malformed>
     requires udp { is_udp bytes.now ≡ true }
     ensures { result ≡ (if is_udp_short bytes.now then Err Malformed.L4Short else Ok (head_of bytes.now)) }
 {
-    if total(bytes) - header_len(bytes) < UDP_HEADER {
+    if total(bytes) - header_len(bytes) < udp::HEADER {
         return Err(Malformed::L4Short);
     }
     Ok(head_with_ports(bytes))
@@ -126,9 +109,9 @@ pub(crate) fn read_transport(bytes: &[u8]) -> Result<Head, Malformed>
     if is_fragment(bytes) {
         return Ok(ip_head(bytes));
     }
-    match bytes[9] {
-        TCP => read_tcp(bytes),
-        UDP => read_udp(bytes),
+    match bytes[ipv4::PROTOCOL] {
+        ipv4::TCP => read_tcp(bytes),
+        ipv4::UDP => read_udp(bytes),
         _ => Ok(ip_head(bytes)),
     }
 }

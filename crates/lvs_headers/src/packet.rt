@@ -5,12 +5,10 @@ ghost use Rattle.lvs_model.specs.Reading.{read, header_len_of, total_of, whole_o
 
 use crate::fields::{header_len, total};
 use crate::heads::read_transport;
+use crate::ipv4;
 use lvs_sum::fold;
 use lvs_types::{Head, Malformed};
 use std::marker::Model;
-
-/// The shortest IP header, in bytes.
-const IP_HEADER: u16 = 20;
 
 /// A packet that was read: what its headers say, and parts of the bytes that it was read from.
 #[derive(Debug, Drop)]
@@ -58,14 +56,14 @@ fn check_header(bytes: &[u8]) -> Result<(), Malformed>
     ensures header { IfOk result (λ _. header_len_of bytes.now ≤ total_of bytes.now) }
     ensures whole { IfOk result (λ _. total_of bytes.now ≤ length bytes.now) }
 {
-    if bytes.len() < usize::from(IP_HEADER) {
+    if bytes.len() < usize::from(ipv4::SHORTEST) {
         return Err(Malformed::Short);
     }
-    if bytes[0] >> 4 != 4 {
+    if bytes[ipv4::VERSION_AND_IHL] >> 4 != ipv4::VERSION {
         return Err(Malformed::Version);
     }
     let header = header_len(bytes);
-    if header < IP_HEADER || bytes.len() < usize::from(header) {
+    if header < ipv4::SHORTEST || bytes.len() < usize::from(header) {
         return Err(Malformed::HeaderLength);
     }
     let total = total(bytes);

@@ -1,5 +1,6 @@
 //! Known packets, whole and damaged.
-use crate::read_packet;
+use crate::numbers::{addr_at, addr_bytes, put_addr, put_word, word_at, word_bytes};
+use crate::{ipv4, read_packet};
 use lvs_types::{Addr, Head, Malformed};
 
 /// A TCP SYN of 40 bytes from 172.16.0.9, port 40000, to 10.0.0.1, port 80, and 8 bytes after it.
@@ -259,4 +260,19 @@ fn cut_at_each_length(rt: HostRuntime) {
         let found = read_packet(SYN.get(..length).unwrap_or(&[])).err();
         assert_eq!(rt; found, Some(want), "{length} bytes");
     }
+}
+
+#[test]
+fn puts_numbers_where_they_are_read(rt: HostRuntime) {
+    let mut bytes = SYN;
+    let addr = Addr {
+        number: 0xc0a8_0102,
+    };
+    put_addr(&mut bytes, ipv4::SOURCE, addr);
+    put_word(&mut bytes, ipv4::IDENTIFICATION, 0x1234);
+    assert_eq!(rt; addr_at(&bytes, ipv4::SOURCE), addr);
+    assert_eq!(rt; addr_at(&bytes, ipv4::DESTINATION).number, 0x0a00_0001);
+    assert_eq!(rt; word_at(&bytes, ipv4::IDENTIFICATION), 0x1234);
+    assert_eq!(rt; addr_bytes(addr), [0xc0, 0xa8, 0x01, 0x02]);
+    assert_eq!(rt; word_bytes(0x1234), [0x12, 0x34]);
 }

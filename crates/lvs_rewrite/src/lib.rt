@@ -1,7 +1,6 @@
 //! Rewriting packets in place for masquerade, and the outer header of a tunnel.
 #![tactic(auto)]
 
-mod fields;
 mod masq;
 mod sums;
 #[cfg(test)]

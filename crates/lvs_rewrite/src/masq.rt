@@ -4,15 +4,10 @@ ghost use Rattle.lvs_model.specs.Reading.{read};
 ghost use Rattle.lvs_model.specs.Rewriting.{has_ports, masq_in_bytes, masq_out_bytes};
 ghost use Rattle.lvs_rewrite.specs.Validity.{has_valid_header, has_valid_part, udp_field};
 
-use crate::fields::{put_addr, put_word};
 use crate::sums::{Endpoint, update_header_sum, update_part_sum};
+use lvs_headers::numbers::{put_addr, put_word};
+use lvs_headers::{ipv4, tcp};
 use lvs_types::{Addr, Head};
-
-/// The place of the source address in the IP header (RFC 791, section 3.1).
-const SOURCE: usize = 12;
-
-/// The place of the destination address in the IP header (RFC 791, section 3.1).
-const DESTINATION: usize = 16;
 
 /// Rewrites a client's packet for a real server: the destination becomes the server's address and
 /// port, and the checksums are updated (RFC 1624). `head` is the reading of `bytes`, which are the
@@ -28,8 +23,9 @@ pub fn masq_in(bytes: &mut [u8], head: &Head, daddr: Addr, dport: u16)
     ensures unsummed { head.now.code ≡ 17 → udp_field bytes.old ≡ 0 → udp_field bytes.new ≡ 0 }
     ensures summed { head.now.code ≡ 17 → udp_field bytes.old ≢ 0 → udp_field bytes.new ≢ 0 }
 {
-    put_addr(bytes, DESTINATION, daddr);
-    put_word(bytes, usize::from(head.header_len) + 2, dport);
+    put_addr(bytes, ipv4::DESTINATION, daddr);
+    let port = usize::from(head.header_len) + tcp::DESTINATION_PORT;
+    put_word(bytes, port, dport);
     update_header_sum(bytes, head.dst, daddr);
     let old = Endpoint {
         addr: head.dst,
@@ -56,8 +52,9 @@ pub fn masq_out(bytes: &mut [u8], head: &Head, vaddr: Addr, vport: u16)
     ensures unsummed { head.now.code ≡ 17 → udp_field bytes.old ≡ 0 → udp_field bytes.new ≡ 0 }
     ensures summed { head.now.code ≡ 17 → udp_field bytes.old ≢ 0 → udp_field bytes.new ≢ 0 }
 {
-    put_addr(bytes, SOURCE, vaddr);
-    put_word(bytes, usize::from(head.header_len), vport);
+    put_addr(bytes, ipv4::SOURCE, vaddr);
+    let port = usize::from(head.header_len) + tcp::SOURCE_PORT;
+    put_word(bytes, port, vport);
     update_header_sum(bytes, head.src, vaddr);
     let old = Endpoint {
         addr: head.src,

@@ -2,21 +2,10 @@
 ghost use Rattle.std.specs.Prelude.{◌≡◌, ◌==◌, ◌+◌, ◌≤◌, length};
 ghost use Rattle.lvs_model.specs.Rewriting.{checksum_place, moved_sum, part_sum, udp_sum, with_header_sum, with_part_sum};
 
-use crate::fields::{put_word, word_at};
+use lvs_headers::numbers::{put_word, word_at};
+use lvs_headers::{ipv4, tcp, udp};
 use lvs_sum::{update16, update32};
 use lvs_types::{Addr, Head};
-
-/// The protocol's number of TCP (RFC 791, section 3.1).
-const TCP: u8 = 6;
-
-/// The place of the checksum in the IP header (RFC 791, section 3.1).
-const HEADER_SUM: usize = 10;
-
-/// The place of the checksum in a TCP header (RFC 9293, section 3.1).
-const TCP_SUM: usize = 16;
-
-/// The place of the checksum in a UDP header (RFC 768).
-const UDP_SUM: usize = 6;
 
 /// An address and a port.
 #[derive(Clone, Copy)]
@@ -30,8 +19,12 @@ pub(crate) fn update_header_sum(bytes: &mut [u8], old: Addr, new: Addr)
     requires { 12 ≤ length bytes.old }
     ensures { bytes.new ≡ with_header_sum old new bytes.old }
 {
-    let sum = update32(word_at(bytes, HEADER_SUM), old.number, new.number);
-    put_word(bytes, HEADER_SUM, sum);
+    let sum = update32(
+        word_at(bytes, ipv4::HEADER_CHECKSUM),
+        old.number,
+        new.number,
+    );
+    put_word(bytes, ipv4::HEADER_CHECKSUM, sum);
 }
 
 /// Updates the TCP or UDP checksum for an address and a port that changed.
@@ -41,7 +34,7 @@ pub(crate) fn update_part_sum(bytes: &mut [u8], head: &Head, old: Endpoint, new:
 {
     let place = checksum_place(head);
     let field = word_at(bytes, place);
-    let sum = part_sum(head.code == TCP, field, moved_sum(field, old, new));
+    let sum = part_sum(head.code == ipv4::TCP, field, moved_sum(field, old, new));
     put_word(bytes, place, sum);
 }
 
@@ -49,7 +42,11 @@ pub(crate) fn update_part_sum(bytes: &mut [u8], head: &Head, old: Endpoint, new:
 fn checksum_place(head: &Head) -> usize
     ensures { result ≡ checksum_place head.now }
 {
-    let place = if head.code == TCP { TCP_SUM } else { UDP_SUM };
+    let place = if head.code == ipv4::TCP {
+        tcp::CHECKSUM
+    } else {
+        udp::CHECKSUM
+    };
     usize::from(head.header_len) + place
 }
 

@@ -1,28 +1,15 @@
-//! The outer header of a tunnel (RFC 2003, section 3.1), in rows of four bytes:
-//!
-//! ```text
-//! version and length | type of service | total length
-//! identification                       | flags and fragment offset
-//! time to live       | protocol        | header checksum
-//! source address
-//! destination address
-//! ```
+//! The outer header of a tunnel (RFC 2003, section 3.1): an IPv4 header without options.
 ghost use Rattle.std.specs.Prelude.{◌≡◌, true, ◌<◌, ◌≤◌, IfOk, OnErr, OnOk};
 ghost use Rattle.lvs_sum.specs.Sums.{is_valid_header};
 ghost use Rattle.lvs_model.specs.Rewriting.{flags_byte, outer_bytes, outer_with};
 
-use crate::fields::{addr_bytes, word_bytes};
+use lvs_headers::ipv4;
+use lvs_headers::numbers::{addr_bytes, word_bytes};
 use lvs_sum::fold;
 use lvs_types::{Addr, Head};
 
 /// The longest packet that the outer header leaves within 65,535 bytes.
-const MAX_INNER: u16 = 65515;
-
-/// Version 4, and a header of five words.
-const VERSION_AND_LENGTH: u8 = 0x45;
-
-/// The protocol's number of a packet within a packet.
-const IP_IN_IP: u8 = 4;
+const MAX_INNER: u16 = u16::MAX - ipv4::SHORTEST;
 
 /// The packet would be longer than 65,535 bytes with the outer header.
 #[derive(Clone, Copy, Debug, PartialEq, Eq)]
@@ -51,16 +38,16 @@ fn outer_with(sum: u16, head: &Head, local: Addr, daddr: Addr) -> [u8; 20]
     requires { head.now.total ≤ 65515 }
     ensures { result ≡ outer_with sum head.now local daddr }
 {
-    let [total_high, total_low] = word_bytes(head.total + 20);
+    let [total_high, total_low] = word_bytes(head.total + ipv4::SHORTEST);
     let [id_high, id_low] = word_bytes(head.id);
     let flags = flags_byte(head.dont_fragment);
     let [sum_high, sum_low] = word_bytes(sum);
     let [s0, s1, s2, s3] = addr_bytes(local);
     let [d0, d1, d2, d3] = addr_bytes(daddr);
     [
-        VERSION_AND_LENGTH, head.tos, total_high, total_low,
+        ipv4::FIVE_WORDS, head.tos, total_high, total_low,
         id_high, id_low, flags, 0,
-        head.ttl, IP_IN_IP, sum_high, sum_low,
+        head.ttl, ipv4::IP_IN_IP, sum_high, sum_low,
         s0, s1, s2, s3,
         d0, d1, d2, d3,
     ]
@@ -70,5 +57,9 @@ fn outer_with(sum: u16, head: &Head, local: Addr, daddr: Addr) -> [u8; 20]
 fn flags_byte(dont_fragment: bool) -> u8
     ensures { result ≡ flags_byte dont_fragment }
 {
-    if dont_fragment { 0x40 } else { 0 }
+    if dont_fragment {
+        ipv4::DONT_FRAGMENT
+    } else {
+        0
+    }
 }

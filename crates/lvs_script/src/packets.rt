@@ -1,8 +1,9 @@
 //! TCP packets of 40 bytes (RFC 791, section 3.1; RFC 9293, section 3.1).
 ghost use Rattle.std.specs.Prelude.{◌≡◌, ◌++◌, IfOk};
-ghost use Rattle.lvs_model.specs.Fields.{word_bytes, addr_bytes};
 ghost use Rattle.lvs_model.specs.Generated.{ip_header_with, ip_header, tcp_header_with, pseudo_header, tcp_sum, tcp_packet};
 
+use lvs_headers::numbers::{addr_bytes, word_bytes};
+use lvs_headers::{ipv4, tcp};
 use lvs_sum::fold;
 use lvs_types::{Addr, Bytes, NoMemory};
 use std::alloc::Global;
@@ -15,22 +16,10 @@ pub(crate) struct Endpoint {
 }
 
 /// The byte of the control bits: SYN alone.
-pub(crate) const SYN: u8 = 2;
+pub(crate) const SYN: u8 = 1 << tcp::SYN_BIT;
 
 /// ACK alone.
-pub(crate) const ACK: u8 = 16;
-
-fn word_bytes(number: u16) -> [u8; 2]
-    ensures { result ≡ word_bytes number }
-{
-    number.to_be_bytes()
-}
-
-fn addr_bytes(addr: Addr) -> [u8; 4]
-    ensures { result ≡ addr_bytes addr }
-{
-    addr.number.to_be_bytes()
-}
+pub(crate) const ACK: u8 = 1 << tcp::ACK_BIT;
 
 /// The IP header with a given checksum.
 #[rattlefmt::skip]
@@ -41,9 +30,9 @@ fn ip_header_with(sum: u16, src: Addr, dst: Addr) -> [u8; 20]
     let [s0, s1, s2, s3] = addr_bytes(src);
     let [d0, d1, d2, d3] = addr_bytes(dst);
     [
-        0x45, 0, 0, 40,
-        0, 1, 0x40, 0,
-        64, 6, sum_high, sum_low,
+        ipv4::FIVE_WORDS, 0, 0, 40,
+        0, 1, ipv4::DONT_FRAGMENT, 0,
+        64, ipv4::TCP, sum_high, sum_low,
         s0, s1, s2, s3,
         d0, d1, d2, d3,
     ]
@@ -68,7 +57,7 @@ fn tcp_header_with(sum: u16, sport: u16, dport: u16, flags: u8) -> [u8; 20]
         s0, s1, d0, d1,
         0, 0, 0, 0,
         0, 0, 0, 0,
-        0x50, flags, 0x20, 0,
+        tcp::FIVE_WORDS, flags, 0x20, 0,
         sum_high, sum_low, 0, 0,
     ]
 }
@@ -83,7 +72,7 @@ fn pseudo_header(src: Addr, dst: Addr) -> [u8; 12]
     [
         s0, s1, s2, s3,
         d0, d1, d2, d3,
-        0, 6, 0, 20,
+        0, ipv4::TCP, 0, 20,
     ]
 }
 

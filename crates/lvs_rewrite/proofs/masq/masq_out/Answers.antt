@@ -19,6 +19,7 @@ update_part_sum-requires c =
 pub returns : goal.returns
 returns c =
     let are : AreBytes c.args.bytes.now = (λ k. search rules) in
-    let now : c.update_part_sum.new.bytes ≡ masq_out_bytes c.args.head.now c.args.bytes.now c.args.vaddr c.args.vport = search rules in
+    let first : c.args.head.now.header_len + 0 ≡ c.args.head.now.header_len = omega arith in
+    let now : c.update_part_sum.new.bytes ≡ masq_out_bytes c.args.head.now c.args.bytes.now c.args.vaddr c.args.vport = search (rules, first) in
     let kept = kept_out c.args.bytes.now c.args.head.now c.args.vaddr c.args.vport c.update_part_sum.new.bytes c.requires.read c.requires.whole c.requires.ports are now in
     record { bytes = now; header = kept.header; tcp = kept.tcp; udp = kept.udp; unsummed = kept.unsummed; summed = kept.summed }
