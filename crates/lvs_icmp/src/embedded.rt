@@ -7,7 +7,9 @@ ghost use Rattle.lvs_model.specs.IcmpErrors.{embedded_of, has_first_bytes, embed
 ghost use Rattle.lvs_model.specs.Reading.{header_len_of};
 ghost use Rattle.lvs_icmp.specs.Sides.{sides_of};
 
-use crate::fields::{addr_at, header_len, word_at};
+use crate::fields::header_len;
+use lvs_headers::ipv4::{DESTINATION, FLAGS_AND_OFFSET, FRAGMENT_OFFSET, PROTOCOL, SOURCE};
+use lvs_headers::numbers::{addr_at, word_at};
 use lvs_types::{Addr, Key, Proto};
 
 /// The place of the embedded packet in a message, which is the length of the message's own header.
@@ -18,19 +20,6 @@ const IP_HEADER: usize = 20;
 
 /// How many bytes behind the IP header an error has at least: those of the ports are among them.
 const FIRST_BYTES: usize = 8;
-
-/// The place of the flags and the fragment's offset (RFC 791, section 3.1).
-const FLAGS: usize = 6;
-
-/// The bits of that word that are the offset.
-const OFFSET: u16 = 0x1fff;
-
-/// The place of the protocol's number.
-const PROTOCOL: usize = 9;
-
-const SOURCE: usize = 12;
-
-const DESTINATION: usize = 16;
 
 /// The packet that a message is about.
 pub(crate) fn embedded_of(message: &[u8]) -> &[u8]
@@ -60,7 +49,7 @@ fn has_first_bytes(packet: &[u8]) -> bool
         && packet[0] >> 4 == 4
         && header_len(packet) >= IP_HEADER
         && packet.len() >= header_len(packet) + FIRST_BYTES
-        && word_at(packet, FLAGS) & OFFSET == 0
+        && word_at(packet, FLAGS_AND_OFFSET) & FRAGMENT_OFFSET == 0
 }
 
 /// The protocol of a number, TCP or UDP.

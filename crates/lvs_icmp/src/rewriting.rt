@@ -5,17 +5,12 @@ ghost use Rattle.lvs_model.specs.Reading.{header_len_of};
 ghost use Rattle.lvs_model.specs.Rewriting.{with_header_sum};
 
 use crate::embedded::{EMBEDDED, embedded_of};
-use crate::fields::{addr_at, header_len, put_addr, put_word, word_at};
+use crate::fields::header_len;
+use lvs_headers::ipv4::{DESTINATION, HEADER_CHECKSUM, SOURCE};
+use lvs_headers::numbers::{addr_at, put_addr, put_word, word_at};
 use lvs_sum::{fold, update32};
 use lvs_types::{Addr, Bytes, Entry, NoMemory};
 use std::alloc::Global;
-
-/// The places of the checksum and of the addresses in the IP header (RFC 791, section 3.1).
-const HEADER_SUM: usize = 10;
-
-const SOURCE: usize = 12;
-
-const DESTINATION: usize = 16;
 
 /// The place of the checksum in the message (RFC 792).
 const MESSAGE_SUM: usize = 2;
@@ -25,8 +20,8 @@ fn update_header_sum(packet: &mut [u8], old: Addr, new: Addr)
     requires { 20 ≤ length packet.old }
     ensures { packet.new ≡ with_header_sum old new packet.old }
 {
-    let sum = update32(word_at(packet, HEADER_SUM), old.number, new.number);
-    put_word(packet, HEADER_SUM, sum);
+    let sum = update32(word_at(packet, HEADER_CHECKSUM), old.number, new.number);
+    put_word(packet, HEADER_CHECKSUM, sum);
 }
 
 /// Puts another source, and updates the header's checksum.
