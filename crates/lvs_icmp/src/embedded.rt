@@ -2,7 +2,6 @@
 //! behind it (RFC 792).
 ghost use Rattle.std.specs.Prelude.{◌≡◌, ◌+◌, ◌≤◌, length, OnSome};
 ghost use Rattle.std.specs.Bool.{OnTrue};
-ghost use Rattle.lvs_types.specs.Protocols.{proto_of_code};
 ghost use Rattle.lvs_model.specs.IcmpErrors.{embedded_of, has_first_bytes, embedded_proto, key_of_answer};
 ghost use Rattle.lvs_model.specs.Reading.{header_len_of};
 ghost use Rattle.lvs_icmp.specs.Sides.{sides_of};
@@ -52,17 +51,6 @@ fn has_first_bytes(packet: &[u8]) -> bool
         && word_at(packet, FLAGS_AND_OFFSET) & FRAGMENT_OFFSET == 0
 }
 
-/// The protocol of a number, TCP or UDP.
-fn proto_of(code: u8) -> Option<Proto>
-    ensures { result ≡ proto_of_code code }
-{
-    match code {
-        6 => Some(Proto::Tcp),
-        17 => Some(Proto::Udp),
-        _ => None,
-    }
-}
-
 /// The protocol of the packet, where it is TCP or UDP and its ports can be read.
 pub(crate) fn embedded_proto(packet: &[u8]) -> Option<Proto>
     ensures value { result ≡ embedded_proto packet.now }
@@ -70,7 +58,7 @@ pub(crate) fn embedded_proto(packet: &[u8]) -> Option<Proto>
     ensures fits { OnSome result (header_len_of packet.now + 8 ≤ length packet.now) }
 {
     if has_first_bytes(packet) {
-        proto_of(packet[PROTOCOL])
+        Proto::of_code(packet[PROTOCOL])
     } else {
         None
     }

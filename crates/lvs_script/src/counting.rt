@@ -18,8 +18,9 @@ fn count_message(alloc: Global, bytes: &Bytes) -> Result<usize, NoMemory>
     }
 }
 
-/// How many items a line stands for: none for a listing.
-pub(crate) fn count_items(alloc: Global, line: &ScriptLine) -> Result<usize, NoMemory>
+/// How many items a line stands for: of a sync message its records, or 1 where it can't be read, and
+/// none of a listing (this project's profile).
+pub fn count_items(alloc: Global, line: &ScriptLine) -> Result<usize, NoMemory>
     ensures { IfOk result (λ count. count ≡ length (items_of_line line.now)) }
 {
     match line {

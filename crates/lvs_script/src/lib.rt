@@ -17,6 +17,7 @@ mod stop;
 mod tests;
 mod values;
 
+pub use counting::count_items;
 pub use generator::generate;
 pub use planner::plan;
 pub use script::read_script;
