@@ -1,6 +1,6 @@
 -- What each change of the slots makes of the rows.
-use Rattle.std.proofs.Common.{◌≡◌, ◌≢◌, ℕ, ◌<◌, ◌⊎◌, inl, inr, Bool, true, false, cond, refl, sym, ap, ◌∙◌, subst, List, [], ◌∷◌, ◌++◌, Option, Some, None, map, filter_map, nat_lt, arith}
-use Rattle.std.specs.List.{AllByRecursion, cons_option}
+use Rattle.std.proofs.Common.{◌≡◌, ◌≢◌, ℕ, ◌<◌, inl, inr, Bool, true, false, cond, refl, sym, ap, ◌∙◌, subst, List, [], ◌∷◌, ◌++◌, Option, Some, None, map, filter_map, nat_lt, arith}
+use Rattle.std.specs.List.{cons_option}
 use Rattle.std.specs.Option.{option_map, option_and_then}
 use Rattle.std.proofs.lemmas.Bool.{cases_eq}
 use Rattle.std.proofs.lemmas.Bool.Decides.{nat_tests}
@@ -11,7 +11,7 @@ use Rattle.lvs_model.specs.Lists.{sorted_by}
 use Rattle.lvs_dests.specs.declared.slots.Slot.{Slot}
 use Rattle.lvs_dests.specs.Rows.{has_row_id, replaced}
 use Rattle.lvs_dests.specs.Pool.{Changed, IsIndex, rows_in, id_in}
-use Rattle.lvs_dests.proofs.Same.{tested, id_is, id_own, decide_id, apart_ids}
+use Rattle.lvs_dests.proofs.Same.{id_own, decide_id, apart_ids}
 use Rattle.lvs_dests.proofs.Index.{index_one}
 use Rattle.lvs_dests.proofs.Sorted.{sorted_kept}
 use Rattle.lvs_dests.proofs.Occupied.{held_by, at_key, held_same, held_kept, held_all, held_put}

@@ -7,7 +7,7 @@ use Rattle.lvs_types.specs.declared.dest.DestRow.{DestRow}
 use Rattle.lvs_model.specs.Lists.{insert_by, sorted_by}
 use Rattle.lvs_dests.specs.declared.slots.Slot.{Slot}
 use Rattle.lvs_dests.specs.Rows.{has_row_id}
-use Rattle.lvs_dests.specs.Pool.{IsIndex, rows_in, id_in, AreApart}
+use Rattle.lvs_dests.specs.Pool.{IsIndex, rows_in, id_in, DifferInId}
 use Rattle.lvs_dests.proofs.Same.{tested, decide_id, apart_ids}
 use Rattle.lvs_dests.proofs.Index.{index_one}
 use Rattle.lvs_dests.proofs.Sorted.{all_sorted, any_sorted}
@@ -98,20 +98,21 @@ module _ {K : Type 0} (decide : (a b : K) → (a ≡ b) ⊎ (a ≢ b)) (value : 
 
 -- ---- no two rows have one id
 
-abbrev pub SlotsApart : List Slot → Type 0
-SlotsApart [] = Unit {0}
-SlotsApart (slot ∷ slots) = AllByRecursion (λ (other : Slot). id_in other ≢ id_in slot) slots × SlotsApart slots
+-- no two slots have one value
+abbrev pub SlotsApart : {K : Type 0} → (Slot → K) → List Slot → Type 0
+SlotsApart value [] = Unit {0}
+SlotsApart value (slot ∷ slots) = AllByRecursion (λ (other : Slot). value other ≢ value slot) slots × SlotsApart value slots
 
-pub held_apart : (slots : List (Option Slot)) → ((key other : ℕ) (slot x : Slot) → at_key slots key ≡ Some slot → at_key slots other ≡ Some x → id_in x ≡ id_in slot → other ≡ key) → SlotsApart (held_by slots)
-held_apart [] one = tt
-held_apart (None ∷ slots) one = held_apart slots (λ key other slot x here there same. let e = one (suc key) (suc other) slot x here there same in omega arith)
-held_apart (Some s ∷ slots) one = (
-  held_all (λ (other : Slot). id_in other ≢ id_in s) slots (λ key x there same. let e : suc key ≡ zero = one zero (suc key) s x refl there same in omega arith),
-  held_apart slots (λ key other slot x here there same. let e = one (suc key) (suc other) slot x here there same in omega arith),
+pub held_apart : {K : Type 0} (value : Slot → K) (slots : List (Option Slot)) → ((key other : ℕ) (slot x : Slot) → at_key slots key ≡ Some slot → at_key slots other ≡ Some x → value x ≡ value slot → other ≡ key) → SlotsApart value (held_by slots)
+held_apart value [] one = tt
+held_apart value (None ∷ slots) one = held_apart value slots (λ key other slot x here there same. let e = one (suc key) (suc other) slot x here there same in omega arith)
+held_apart value (Some s ∷ slots) one = (
+  held_all (λ (other : Slot). value other ≢ value s) slots (λ key x there same. let e : suc key ≡ zero = one zero (suc key) s x refl there same in omega arith),
+  held_apart value slots (λ key other slot x here there same. let e = one (suc key) (suc other) slot x here there same in omega arith),
 )
 
-module _ (number : Slot → ℕ) where
-  insert_apart_by : (slot other : Slot) (others later : List Slot) (b : Bool) → AllByRecursion (λ (x : Slot). id_in x ≢ id_in slot) (other ∷ others) → SlotsApart (other ∷ others) → (id_in slot ≢ id_in other → AllByRecursion (λ (x : Slot). id_in x ≢ id_in other) later) → SlotsApart later → SlotsApart (cond b (slot ∷ other ∷ others) (other ∷ later))
+module _ {K : Type 0} (value : Slot → K) (number : Slot → ℕ) where
+  insert_apart_by : (slot other : Slot) (others later : List Slot) (b : Bool) → AllByRecursion (λ (x : Slot). value x ≢ value slot) (other ∷ others) → SlotsApart value (other ∷ others) → (value slot ≢ value other → AllByRecursion (λ (x : Slot). value x ≢ value other) later) → SlotsApart value later → SlotsApart value (cond b (slot ∷ other ∷ others) (other ∷ later))
   insert_apart_by slot other others later true away apart rest more = (away, apart)
   insert_apart_by slot other others later false away apart rest more = (rest (λ same. away.0 (sym same)), more)
 
@@ -123,25 +124,25 @@ module _ (number : Slot → ℕ) where
   insert_away P slot [] here all = (here, tt)
   insert_away P slot (other ∷ others) here all = insert_away_by P slot other others (insert_by number slot others) (nat_le (number slot) (number other)) here all (insert_away P slot others here all.1)
 
-  insert_apart : (slot : Slot) (slots : List Slot) → AllByRecursion (λ (x : Slot). id_in x ≢ id_in slot) slots → SlotsApart slots → SlotsApart (insert_by number slot slots)
+  insert_apart : (slot : Slot) (slots : List Slot) → AllByRecursion (λ (x : Slot). value x ≢ value slot) slots → SlotsApart value slots → SlotsApart value (insert_by number slot slots)
   insert_apart slot [] away apart = (tt, tt)
   insert_apart slot (other ∷ others) away apart =
       insert_apart_by slot other others (insert_by number slot others) (nat_le (number slot) (number other)) away apart
-      (λ differ. insert_away (λ (x : Slot). id_in x ≢ id_in other) slot others differ apart.0) (insert_apart slot others away.1 apart.1)
+      (λ differ. insert_away (λ (x : Slot). value x ≢ value other) slot others differ apart.0) (insert_apart slot others away.1 apart.1)
 
-  sorted_apart : (slots : List Slot) → SlotsApart slots → SlotsApart (sorted_by number slots)
+  pub sorted_apart : (slots : List Slot) → SlotsApart value slots → SlotsApart value (sorted_by number slots)
   sorted_apart [] apart = tt
-  sorted_apart (slot ∷ slots) apart = insert_apart slot (sorted_by number slots) (all_sorted number (λ (x : Slot). id_in x ≢ id_in slot) slots apart.0) (sorted_apart slots apart.1)
+  sorted_apart (slot ∷ slots) apart = insert_apart slot (sorted_by number slots) (all_sorted number (λ (x : Slot). value x ≢ value slot) slots apart.0) (sorted_apart slots apart.1)
 
 none_of : (slot : Slot) (slots : List Slot) → AllByRecursion (λ (x : Slot). id_in x ≢ id_in slot) slots → list_any (has_row_id (id_in slot)) (map row_in slots) ≡ false
 none_of slot [] away = refl
 none_of slot (x ∷ slots) away = rw (apart_ids (id_in x) (id_in slot) away.0) (none_of slot slots away.1)
 
-rows_apart : (slots : List Slot) → SlotsApart slots → AreApart (map row_in slots)
+rows_apart : (slots : List Slot) → SlotsApart id_in slots → DifferInId (map row_in slots)
 rows_apart [] apart = tt
 rows_apart (slot ∷ slots) apart = (none_of slot slots apart.0, rows_apart slots apart.1)
 
-pub are_apart : (key_of : DestId → Option ℕ) (slots : List (Option Slot)) → IsIndex id_in key_of (at_key slots) → AreApart (rows_in slots)
+pub are_apart : (key_of : DestId → Option ℕ) (slots : List (Option Slot)) → IsIndex id_in key_of (at_key slots) → DifferInId (rows_in slots)
 are_apart key_of slots index =
     rows_apart (sorted_by (λ (s : Slot). s.sequence) (held_by slots))
-    (sorted_apart (λ (s : Slot). s.sequence) (held_by slots) (held_apart slots (λ key other slot x here there same. index_one decide_id id_in key_of (at_key slots) index key other slot x here there same)))
+    (sorted_apart id_in (λ (s : Slot). s.sequence) (held_by slots) (held_apart id_in slots (λ key other slot x here there same. index_one decide_id id_in key_of (at_key slots) index key other slot x here there same)))

@@ -12,3 +12,5 @@ pub mod Tied
 pub mod Standing
 pub mod Serves
 pub mod Trashed
+pub mod Distinct
+pub mod Ahead

@@ -1,21 +1,18 @@
 -- The list of a service through each change of the rows.
-use Rattle.std.proofs.Common.{◌≡◌, ◌≢◌, ℕ, ◌⊎◌, inl, inr, Bool, true, false, ◌&&◌, ◌||◌, not, cond, refl, sym, ap, ◌∙◌, subst, List, [], ◌∷◌, ◌++◌, Option, Some, None, map, filter_map}
-use Rattle.std.specs.List.{AllByRecursion, list_any, find, filter, cons_option}
-use Rattle.std.specs.Option.{option_map, option_and_then}
-use Rattle.std.proofs.lemmas.Option.{none-some, same_Some}
-use Rattle.lvs_types.specs.declared.addr.Addr.{Addr}
+use Rattle.std.proofs.Common.{◌≡◌, ◌≢◌, Bool, true, false, ◌&&◌, ◌||◌, cond, refl, sym, ap, ◌∙◌, subst, List, [], ◌∷◌, ◌++◌, Option, Some, None, map}
+use Rattle.std.specs.List.{AllByRecursion, list_any, filter, cons_option}
+use Rattle.std.proofs.lemmas.Option.{same_Some}
 use Rattle.lvs_types.specs.declared.addr.DestId.{DestId}
 use Rattle.lvs_types.specs.declared.service.ServiceKey.{ServiceKey}
 use Rattle.lvs_types.specs.declared.dest.DestRow.{DestRow}
 use Rattle.lvs_types.specs.declared.dest.Candidate.{Candidate}
 use Rattle.lvs_model.specs.Same.{service_key_eq}
-use Rattle.lvs_model.specs.Binding.{serves_at}
 use Rattle.lvs_dests.specs.declared.place.ServiceName.{ServiceName}
-use Rattle.lvs_dests.specs.Rows.{has_row_id, row_at, replaced, is_row_of, candidate_of_row, candidates_of, is_row_serving, serving}
+use Rattle.lvs_dests.specs.Rows.{has_row_id, row_at, replaced, is_row_of, candidate_of_row, candidates_of}
 use Rattle.lvs_dests.specs.Places.{name_of}
-use Rattle.lvs_dests.specs.Lists.{has_candidate_id, name_same, list_put}
-use Rattle.lvs_dests.specs.Pool.{AreApart}
-use Rattle.lvs_dests.proofs.Same.{tested, at_true, at_false, id_is, id_own, differ, apart_ids, key_is, key_own, name_same_key}
+use Rattle.lvs_dests.specs.Lists.{has_candidate_id, list_put}
+use Rattle.lvs_dests.specs.Pool.{DifferInId}
+use Rattle.lvs_dests.proofs.Same.{at_true, at_false, id_is, id_own, apart_ids, key_is, key_own, name_same_key}
 
 pub neither : (a b : Bool) → (a || b) ≡ false → (a ≡ false) × (b ≡ false)
 neither true b e = absurd (cc)
@@ -42,7 +39,7 @@ only_by id x row rows true is found apart rest =
     (λ holds. same_Some row x found, none_only id x rows (subst (λ (i : DestId). list_any (has_row_id i) rows ≡ false) same apart))
 only_by id x row rows false is found apart rest = (no_row id x row is, rest found)
 
-pub only_found : (id : DestId) (x : DestRow) (rows : List DestRow) → row_at id rows ≡ Some x → AreApart rows → IsOnly id x rows
+pub only_found : (id : DestId) (x : DestRow) (rows : List DestRow) → row_at id rows ≡ Some x → DifferInId rows → IsOnly id x rows
 only_found id x [] found apart = tt
 only_found id x (row ∷ rows) found apart = only_by id x row rows (has_row_id id row) refl found apart.0 (λ later. only_found id x rows later apart.1)
 
@@ -55,7 +52,7 @@ later_found row rows (other ∷ some) none all =
     let not_here : has_row_id other.dest.id row ≡ false = apart_ids row.dest.id other.dest.id away in
     (at_false (has_row_id other.dest.id row) (Some row) (row_at other.dest.id rows) not_here ∙ all.0, later_found row rows some parts.1 all.1)
 
-pub each_found : (rows : List DestRow) → AreApart rows → AllByRecursion (λ (row : DestRow). row_at row.dest.id rows ≡ Some row) rows
+pub each_found : (rows : List DestRow) → DifferInId rows → AllByRecursion (λ (row : DestRow). row_at row.dest.id rows ≡ Some row) rows
 each_found [] apart = tt
 each_found (row ∷ rows) apart =
     (at_true (has_row_id row.dest.id row) (Some row) (row_at row.dest.id rows) (id_own row.dest.id), later_found row rows rows apart.0 (each_found rows apart.1))

@@ -1,23 +1,18 @@
 -- Searches by a narrower test, and changes of the one that passes.
-use Rattle.std.proofs.Common.{◌≡◌, ◌≢◌, ℕ, ◌<◌, ◌⊎◌, inl, inr, Bool, true, false, ◌&&◌, ◌||◌, ◌==◌, not, cond, refl, sym, ap, ◌∙◌, subst, List, [], ◌∷◌, ◌++◌, Option, Some, None, is_some, map, filter_map, arith, ◌+◌}
-use Rattle.std.specs.List.{AllByRecursion, list_any, find, filter, cons_option}
-use Rattle.std.specs.Option.{option_map}
+use Rattle.std.proofs.Common.{◌≡◌, ℕ, ◌<◌, inl, inr, Bool, true, false, ◌&&◌, ◌||◌, ◌==◌, not, cond, refl, sym, ap, ◌∙◌, subst, List, [], ◌∷◌, ◌++◌, Option, Some, None, is_some, arith, ◌+◌}
+use Rattle.std.specs.List.{AllByRecursion, list_any, find, cons_option}
 use Rattle.std.proofs.lemmas.Option.{none-some, same_Some}
 use Rattle.std.proofs.lemmas.Bool.Decides.{nat_tests}
 use Rattle.lvs_types.specs.declared.addr.Addr.{Addr}
-use Rattle.lvs_types.specs.declared.addr.DestId.{DestId}
 use Rattle.lvs_types.specs.declared.service.ServiceKey.{ServiceKey}
 use Rattle.lvs_types.specs.declared.dest.DestSpec.{DestSpec}
 use Rattle.lvs_types.specs.declared.dest.DestRow.{DestRow}
-use Rattle.lvs_types.specs.declared.dest.Candidate.{Candidate}
-use Rattle.lvs_model.specs.Same.{service_key_eq, addr_eq, dest_id_eq}
-use Rattle.lvs_model.specs.Binding.{serves_at}
+use Rattle.lvs_model.specs.Same.{service_key_eq, addr_eq}
 use Rattle.lvs_model.specs.Lists.{without}
-use Rattle.lvs_dests.specs.Rows.{has_row_id, row_at, replaced, changed, is_row_at, is_row_of, is_row_revivable, is_known, candidate_of_row, candidates_of, is_row_serving, serving, is_live_row}
-use Rattle.lvs_dests.specs.Places.{name_of, name_eq, place_at, has_place}
-use Rattle.lvs_dests.specs.Pool.{AreApart, IsOneAt}
-use Rattle.lvs_dests.proofs.Same.{tested, at_true, at_false, name_of_key, id_is, id_own}
-use Rattle.lvs_dests.proofs.Found.{find_nothing, none_passes, find_passes}
+use Rattle.lvs_dests.specs.Rows.{row_at, replaced, changed, is_row_at, is_row_revivable}
+use Rattle.lvs_dests.specs.Places.{place_at, has_place}
+use Rattle.lvs_dests.proofs.Same.{tested, at_true, at_false, name_of_key}
+use Rattle.lvs_dests.proofs.Found.{find_nothing, none_passes}
 
 and_false : (a b : Bool) → b ≡ false → (a && b) ≡ false
 and_false true b off = off

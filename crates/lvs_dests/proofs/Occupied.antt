@@ -1,10 +1,9 @@
 -- The slots of the slab that hold something, by what a look-up of each key finds.
-use Rattle.std.proofs.Common.{◌≡◌, ◌≢◌, ℕ, zero, suc, ◌<◌, Bool, true, false, ◌||◌, cond, refl, sym, ap, ◌∙◌, List, [], ◌∷◌, ◌++◌, Option, Some, None, get_or, nat_le, nat_lt, filter_map, ◌⊎◌, inl, inr, arith}
+use Rattle.std.proofs.Common.{◌≡◌, ◌≢◌, ℕ, zero, suc, Bool, true, false, ◌||◌, refl, sym, ap, ◌∙◌, List, [], ◌∷◌, ◌++◌, Option, Some, None, get_or, nat_lt, filter_map, arith}
 use Rattle.std.specs.List.{AllByRecursion, list_any, cons_option}
 use Rattle.std.specs.Option.{option_and_then}
 use Rattle.std.proofs.lemmas.Option.{none-some, same_Some}
 use Rattle.lvs_model.specs.Lists.{insert_by, sorted_by}
-use Rattle.lvs_dests.specs.Pool.{Changed}
 use Rattle.lvs_dests.proofs.Sorted.{all_sorted, lt_le, insert_last, insert_before}
 
 -- what the slots hold, by rising key

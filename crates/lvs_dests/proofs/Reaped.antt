@@ -1,6 +1,6 @@
 -- The release of the servers in the trash that nothing names, one after another.
-use Rattle.std.proofs.Common.{◌≡◌, ◌≢◌, ℕ, ◌<◌, ◌≤◌, ◌+◌, ◌⊎◌, inl, inr, Bool, true, false, ◌||◌, not, cond, refl, sym, ap, ◌∙◌, subst, List, [], ◌∷◌, Option, Some, None, count_by, arith, length, zero-add}
-use Rattle.std.specs.List.{AllByRecursion, list_any, find, cons_option}
+use Rattle.std.proofs.Common.{◌≡◌, ◌≢◌, ℕ, ◌<◌, ◌≤◌, ◌+◌, inl, inr, Bool, true, false, not, cond, refl, sym, ap, ◌∙◌, subst, List, [], ◌∷◌, Option, Some, None, count_by, arith, length, zero-add}
+use Rattle.std.specs.List.{AllByRecursion, list_any, cons_option}
 use Rattle.std.proofs.lemmas.Bool.{cases_lt, cases_eq}
 use Rattle.std.proofs.lemmas.List.{get_or_past}
 use Rattle.std.proofs.lemmas.Option.{none-some, same_Some}
@@ -11,8 +11,8 @@ use Rattle.lvs_model.specs.Lists.{without}
 use Rattle.lvs_dests.specs.declared.slots.Slot.{Slot}
 use Rattle.lvs_dests.specs.declared.pool.Pool.{Pool}
 use Rattle.lvs_dests.specs.Rows.{has_row_id, row_at, replaced, is_row_released}
-use Rattle.lvs_dests.specs.Pool.{AreApart, IsWhole, rows_of, slot_at, is_over_at, id_in}
-use Rattle.lvs_dests.proofs.Same.{id_is, id_own}
+use Rattle.lvs_dests.specs.Pool.{DifferInId, IsWhole, rows_of, slot_at, is_over_at}
+use Rattle.lvs_dests.proofs.Same.{id_is}
 use Rattle.lvs_dests.proofs.Found.{rows_all}
 use Rattle.lvs_dests.proofs.Listed.{IsOnly, only_found, neither}
 use Rattle.lvs_dests.proofs.Narrow.{untouched}
@@ -56,7 +56,7 @@ count_step id x row rows true is found apart over rest =
 count_step id x row rows false is found apart over rest = count_kept row (replaced (has_row_id id) None rows) rows (rest found)
 
 -- one less is to be released
-pub count_less : (id : DestId) (x : DestRow) (rows : List DestRow) → row_at id rows ≡ Some x → AreApart rows → is_row_released x ≡ true → 1 + count_by is_row_released (replaced (has_row_id id) None rows) ≡ count_by is_row_released rows
+pub count_less : (id : DestId) (x : DestRow) (rows : List DestRow) → row_at id rows ≡ Some x → DifferInId rows → is_row_released x ≡ true → 1 + count_by is_row_released (replaced (has_row_id id) None rows) ≡ count_by is_row_released rows
 count_less id x [] found apart over = absurd (none-some x found)
 count_less id x (row ∷ rows) found apart over =
     count_step id x row rows (has_row_id id row) refl found apart.0 over (λ later. count_less id x rows later apart.1 over)

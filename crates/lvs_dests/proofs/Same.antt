@@ -1,11 +1,11 @@
 -- Tests, and that the tests of ids, names and places tell them apart.
-use Rattle.std.proofs.Common.{◌≡◌, ◌≢◌, ℕ, ◌⊎◌, inl, inr, Bool, true, false, ◌&&◌, ◌==◌, cond, refl, sym, ap, ◌∙◌, subst, eqb-true, eq-eqb}
+use Rattle.std.proofs.Common.{◌≡◌, ◌≢◌, ◌⊎◌, inl, inr, Bool, true, false, ◌&&◌, ◌==◌, cond, refl, sym, ap, ◌∙◌, subst, eqb-true, eq-eqb}
 use Rattle.lvs_types.specs.declared.addr.DestId.{DestId}
 use Rattle.lvs_types.specs.declared.service.Proto.{Proto}
 use Rattle.lvs_types.specs.declared.service.Proto.TheVariants.{Tcp, Udp}
 use Rattle.lvs_types.specs.declared.service.ServiceKey.{ServiceKey}
 use Rattle.lvs_types.specs.declared.service.ServiceKey.TheVariants.{Net, Mark}
-use Rattle.lvs_model.specs.Same.{proto_eq, addr_eq, dest_id_eq, service_key_eq}
+use Rattle.lvs_model.specs.Same.{proto_eq, dest_id_eq, service_key_eq}
 use Rattle.lvs_dests.specs.declared.place.ServiceName.{ServiceName}
 use Rattle.lvs_dests.specs.declared.place.Place.{Place}
 use Rattle.lvs_dests.specs.Places.{name_of, name_eq, place_eq}

@@ -1,36 +1,32 @@
 -- The first of a service's live servers that serves is the first of all servers that does.
-use Rattle.std.proofs.Common.{◌≡◌, ℕ, Bool, true, false, ◌&&◌, cond, refl, sym, ap, ◌∙◌, List, [], ◌∷◌, Option, Some, None, map}
+use Rattle.std.proofs.Common.{◌≡◌, ℕ, Bool, true, false, ◌&&◌, cond, refl, ap, ◌∙◌, List, [], ◌∷◌, Option, Some, None, map}
 use Rattle.std.specs.List.{AllByRecursion, find, filter}
-use Rattle.std.specs.Option.{option_map}
+use Rattle.std.specs.Option.{option_map, option_or}
 use Rattle.lvs_types.specs.declared.addr.Addr.{Addr}
-use Rattle.lvs_types.specs.declared.addr.DestId.{DestId}
 use Rattle.lvs_types.specs.declared.service.ServiceKey.{ServiceKey}
+use Rattle.lvs_types.specs.declared.dest.Dest.{Dest}
 use Rattle.lvs_types.specs.declared.dest.DestRow.{DestRow}
-use Rattle.lvs_types.specs.declared.dest.Candidate.{Candidate}
 use Rattle.lvs_model.specs.Binding.{serves_at}
 use Rattle.lvs_dests.specs.Rows.{row_at, is_row_of, candidate_of_row, candidates_of, is_row_serving, serving}
-use Rattle.lvs_dests.specs.Pool.{AreApart}
-use Rattle.lvs_dests.specs.Serving.{is_serving_row, is_serving_id, first_serving}
+use Rattle.lvs_dests.specs.Pool.{DifferInId}
+use Rattle.lvs_dests.specs.Serving.{serving_row, first_serving}
 use Rattle.lvs_dests.proofs.Listed.{each_found}
 
 module _ (key : ServiceKey) (daddr : Addr) (dport vport : ℕ) (rows : List DestRow) where
-  here_by : (row : DestRow) (o : Option Candidate) (p : Option DestRow) (a b : Bool) → a ≡ b → option_map (λ (c : Candidate). c.id) o ≡ option_map (λ (r : DestRow). r.dest.id) p
-      → option_map (λ (c : Candidate). c.id) (cond a (Some (candidate_of_row row)) o) ≡ option_map (λ (r : DestRow). r.dest.id) (cond b (Some row) p)
-  here_by row o p true true is rest = refl
-  here_by row o p false false is rest = rest
-  here_by row o p true false is rest = absurd (cc)
-  here_by row o p false true is rest = absurd (cc)
+  here_by : (row : DestRow) (o : Option Dest) (p : Option DestRow) (b : Bool) → o ≡ option_map (λ (r : DestRow). r.dest) p → option_or (cond b (Some row.dest) None) o ≡ option_map (λ (r : DestRow). r.dest) (cond b (Some row) p)
+  here_by row o p true rest = refl
+  here_by row o p false rest = rest
 
   serves_by : (row : DestRow) (some : List DestRow) (a : Bool) → row_at row.dest.id rows ≡ Some row → first_serving daddr dport vport rows (candidates_of key some) ≡ serving key daddr dport vport some
-      → first_serving daddr dport vport rows (map candidate_of_row (cond a (row ∷ filter (is_row_of key) some) (filter (is_row_of key) some))) ≡ option_map (λ (r : DestRow). r.dest.id) (cond (a && serves_at daddr dport vport row.dest) (Some row) (find (is_row_serving key daddr dport vport) some))
+      → first_serving daddr dport vport rows (map candidate_of_row (cond a (row ∷ filter (is_row_of key) some) (filter (is_row_of key) some))) ≡ option_map (λ (r : DestRow). r.dest) (cond (a && serves_at daddr dport vport row.dest) (Some row) (find (is_row_serving key daddr dport vport) some))
   serves_by row some true found rest =
-      here_by row (find (λ (c : Candidate). is_serving_id daddr dport vport rows c.id) (candidates_of key some)) (find (is_row_serving key daddr dport vport) some)
-      (is_serving_id daddr dport vport rows row.dest.id) (serves_at daddr dport vport row.dest) (ap (is_serving_row daddr dport vport) found) rest
+      ap (λ (o : Option DestRow). option_or (serving_row daddr dport vport o) (first_serving daddr dport vport rows (candidates_of key some))) found
+      ∙ here_by row (first_serving daddr dport vport rows (candidates_of key some)) (find (is_row_serving key daddr dport vport) some) (serves_at daddr dport vport row.dest) rest
   serves_by row some false found rest = rest
 
   first_by : (some : List DestRow) → AllByRecursion (λ (row : DestRow). row_at row.dest.id rows ≡ Some row) some → first_serving daddr dport vport rows (candidates_of key some) ≡ serving key daddr dport vport some
   first_by [] all = refl
   first_by (row ∷ some) all = serves_by row some (is_row_of key row) all.0 (first_by some all.1)
 
-  pub first_is : AreApart rows → first_serving daddr dport vport rows (candidates_of key rows) ≡ serving key daddr dport vport rows
+  pub first_is : DifferInId rows → first_serving daddr dport vport rows (candidates_of key rows) ≡ serving key daddr dport vport rows
   first_is apart = first_by rows (each_found rows apart)

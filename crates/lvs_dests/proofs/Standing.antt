@@ -2,7 +2,6 @@
 use Rattle.std.proofs.Common.{◌≡◌, ℕ, Bool, true, false, not, ◌&&◌, cond, refl, sym, ap, ◌∙◌, List, [], ◌∷◌, Option, Some, None, is_some, IfSome, IfNone, Bor, subst}
 use Rattle.std.specs.List.{find}
 use Rattle.std.specs.Option.{option_copied}
-use Rattle.std.proofs.lemmas.Option.{none-some, same_Some}
 use Rattle.lvs_types.specs.declared.addr.Addr.{Addr}
 use Rattle.lvs_types.specs.declared.service.ServiceKey.{ServiceKey}
 use Rattle.lvs_types.specs.declared.dest.DestSpec.{DestSpec}
@@ -10,7 +9,7 @@ use Rattle.lvs_types.specs.declared.dest.DestRow.{DestRow}
 use Rattle.lvs_dests.specs.declared.place.Place.{Place}
 use Rattle.lvs_dests.specs.Rows.{has_row_id, row_at, replaced, changed, is_row_at, is_row_revivable, is_known, is_live_row, respecified_row}
 use Rattle.lvs_dests.specs.Places.{place_at, place_of, has_place}
-use Rattle.lvs_dests.specs.Pool.{AreApart, IsOneAt}
+use Rattle.lvs_dests.specs.Pool.{DifferInId, IsOneAt}
 use Rattle.lvs_dests.specs.Dests.{IsStanding, IsLiveAt}
 use Rattle.lvs_dests.proofs.Same.{place_is, id_own}
 use Rattle.lvs_dests.proofs.Found.{find_passes}
@@ -25,7 +24,7 @@ swap_not : (x : DestRow) (b : Bool) → cond (not b) (Some x) None ≡ cond b No
 swap_not x true = refl
 swap_not x false = refl
 
-module _ (key : ServiceKey) (addr : Addr) (port : ℕ) (rows : List DestRow) (apart : AreApart rows) where
+module _ (key : ServiceKey) (addr : Addr) (port : ℕ) (rows : List DestRow) (apart : DifferInId rows) where
   abbrev at_place : DestRow → Bool
   at_place = has_place (place_at key addr port)
 
@@ -76,7 +75,7 @@ module _ (key : ServiceKey) (addr : Addr) (port : ℕ) (rows : List DestRow) (ap
 
 -- ---- by what was found
 
-module _ (key : ServiceKey) (spec : DestSpec) (rows : List DestRow) (apart : AreApart rows) where
+module _ (key : ServiceKey) (spec : DestSpec) (rows : List DestRow) (apart : DifferInId rows) where
   pub standing_known : (there : Option DestRow) → there ≡ find (has_place (place_at key spec.addr spec.port)) rows → IfSome there (λ row. IsOneAt (place_at key spec.addr spec.port) row rows) → is_live_row there ≡ is_known key spec.addr spec.port rows
   standing_known None is one = none_known key spec.addr spec.port rows apart (sym is)
   standing_known (Some x) is one = known_there key spec.addr spec.port rows apart x (sym is) one
@@ -108,13 +107,13 @@ module _ (key : ServiceKey) (spec : DestSpec) (rows : List DestRow) (apart : Are
 pub record Looked (place : Place) (rows : List DestRow) (there : Option DestRow) : Type 0 where
   pub is : there ≡ find (has_place place) rows
   pub one : IfSome there (λ row. IsOneAt place row rows)
-  pub apart : AreApart rows
+  pub apart : DifferInId rows
 
 copied_one : (place : Place) (rows : List DestRow) (o : Option (Bor DestRow)) → IfSome o (λ row. IsOneAt place row.now rows) → IfSome (option_copied o) (λ row. IsOneAt place row rows)
 copied_one place rows None one = tt
 copied_one place rows (Some row) one = one
 
-pub looked : (o : Option (Bor DestRow)) (there : Option DestRow) (p q : Place) (some rows : List DestRow) → there ≡ option_copied o → option_copied o ≡ find (has_place p) some → IfSome o (λ row. IsOneAt p row.now some) → AreApart some → p ≡ q → some ≡ rows → Looked q rows there
+pub looked : (o : Option (Bor DestRow)) (there : Option DestRow) (p q : Place) (some rows : List DestRow) → there ≡ option_copied o → option_copied o ≡ find (has_place p) some → IfSome o (λ row. IsOneAt p row.now some) → DifferInId some → p ≡ q → some ≡ rows → Looked q rows there
 looked o there p q some rows copied is one apart place same =
     subst (λ (rs : List DestRow). Looked q rs there) same
     (subst (λ (at : Place). Looked at some there) place

@@ -1,5 +1,5 @@
 -- What ties the pool, the lists and the next id, through each move of a server.
-use Rattle.std.proofs.Common.{◌≡◌, ◌≢◌, ℕ, ◌<◌, ◌+◌, Bool, true, false, ◌&&◌, cond, refl, sym, ap, ◌∙◌, subst, List, [], ◌∷◌, ◌++◌, Option, Some, None, IsSomeAnd, arith, not, map}
+use Rattle.std.proofs.Common.{◌≡◌, ℕ, ◌<◌, ◌+◌, Bool, true, false, ◌&&◌, cond, refl, sym, ap, ◌∙◌, subst, List, [], ◌∷◌, ◌++◌, Option, Some, None, IsSomeAnd, arith, not, map}
 use Rattle.std.specs.List.{AllByRecursion, find, filter}
 use Rattle.std.proofs.lemmas.Option.{none-some, same_Some}
 use Rattle.lvs_types.specs.declared.addr.DestId.{DestId}
@@ -11,12 +11,12 @@ use Rattle.lvs_model.specs.Lists.{without}
 use Rattle.lvs_dests.specs.declared.place.ServiceName.{ServiceName}
 use Rattle.lvs_dests.specs.declared.lists.Lists.{Lists}
 use Rattle.lvs_dests.specs.declared.pool.Pool.{Pool}
-use Rattle.lvs_dests.specs.Rows.{DestsSeen, has_row_id, row_at, replaced, changed, change, bound, ended, shifted, held, unheld, is_row_of, is_row_released, is_unnamed, candidate_of_row, candidates_of, out_of_service}
+use Rattle.lvs_dests.specs.Rows.{DestsSeen, has_row_id, row_at, replaced, changed, change, bound, ended, shifted, held, unheld, is_row_of, is_row_released, is_unnamed, candidate_of_row, candidates_of}
 use Rattle.lvs_dests.specs.Places.{name_of}
 use Rattle.lvs_dests.specs.Lists.{has_candidate_id, list_at, list_put}
-use Rattle.lvs_dests.specs.Pool.{IsWhole, rows_of, AreApart}
+use Rattle.lvs_dests.specs.Pool.{IsWhole, rows_of, DifferInId}
 use Rattle.lvs_dests.specs.Dests.{IsTied, IsRevision}
-use Rattle.lvs_dests.proofs.Same.{at_true, at_false, id_is, key_own}
+use Rattle.lvs_dests.proofs.Same.{at_true, id_is, key_own}
 use Rattle.lvs_dests.proofs.Found.{find_passes}
 use Rattle.lvs_dests.proofs.Whole.{pool_apart}
 use Rattle.lvs_dests.proofs.Listed.{AreServed, shown, only_found, served_replaced, served_still, served_pushed, and_on, and_off, off_and, hidden_by}
@@ -153,8 +153,20 @@ pub some_get : {X : Type 0} (P : X → Type 0) (o : Option X) → IsSomeAnd o P 
 some_get P None it = absurd it
 some_get P (Some x) it = (x, refl, it)
 
+missed_by : (p : DestRow → Bool) (f : DestRow → DestRow) (row : DestRow) (rows : List DestRow) (b : Bool) → (find p rows ≡ None → rows ≡ changed p f rows) → cond b (Some row) (find p rows) ≡ None → row ∷ rows ≡ cond b (f row) row ∷ changed p f rows
+missed_by p f row rows true rest none = absurd (none-some row (sym none))
+missed_by p f row rows false rest none = ap (λ rs. row ∷ rs) (rest none)
+
+unchanged : (p : DestRow → Bool) (f : DestRow → DestRow) (rows : List DestRow) → find p rows ≡ None → rows ≡ changed p f rows
+unchanged p f [] none = refl
+unchanged p f (row ∷ rows) none = missed_by p f row rows (p row) (unchanged p f rows) none
+
+-- an id that isn't there changes nothing
+pub change_missed : (id : DestId) (f : DestRow → DestRow) (seen : DestsSeen) → row_at id seen.rows ≡ None → seen ≡ change id f seen
+change_missed id f seen none = ap (λ (rows : List DestRow). seen_of rows seen.next) (unchanged (has_row_id id) f seen.rows none)
+
 -- a server with another content is changed in the list of all
-pub revise_changed : (pool pool' : Pool) (next : ℕ) (seen : DestsSeen) (row : DestRow) → record { rows = rows_of pool; next = next } ≡ seen → AreApart (rows_of pool) → rows_of pool' ≡ replaced (has_row_id row.dest.id) (Some row) (rows_of pool)
+pub revise_changed : (pool pool' : Pool) (next : ℕ) (seen : DestsSeen) (row : DestRow) → record { rows = rows_of pool; next = next } ≡ seen → DifferInId (rows_of pool) → rows_of pool' ≡ replaced (has_row_id row.dest.id) (Some row) (rows_of pool)
     → (f : DestRow → DestRow) (old : DestRow) → row_at row.dest.id seen.rows ≡ Some old → f old ≡ row → record { rows = rows_of pool'; next = next } ≡ change row.dest.id f seen
 revise_changed pool pool' next seen row view apart rows f old found is =
     let p = has_row_id row.dest.id in
@@ -176,6 +188,10 @@ module _ (f : DestRow → DestRow) (keeps : (z : DestRow) → IsRevision z (f z)
   pub counted_there : IsSomeAnd (row_at y.dest.id seen.rows) (λ old. IsRevision old y)
   counted_there =
       subst (λ (o : Option DestRow). IsSomeAnd o (λ old. IsRevision old y)) (sym found_here) (subst (λ (r : DestRow). IsRevision x r) (sym is) (keeps x))
+
+  -- what is said of each change that makes this of the server is said of its own
+  pub counted_for : (P : DestsSeen → Type 0) → ((g : DestRow → DestRow) (old : DestRow) → row_at y.dest.id seen.rows ≡ Some old → g old ≡ y → P (change y.dest.id g seen)) → P (change id f seen)
+  counted_for P changes = subst (λ (i : DestId). P (change i f seen)) the_id (changes f x found_here (sym is))
 
   -- and what it leaves
   pub counted_change : (new : DestsSeen) → ((g : DestRow → DestRow) (old : DestRow) → row_at y.dest.id seen.rows ≡ Some old → g old ≡ y → new ≡ change y.dest.id g seen) → new ≡ change id f seen

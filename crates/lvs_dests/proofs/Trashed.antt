@@ -1,13 +1,12 @@
 -- The ids in the trash: collected from the slots, and in order.
-use Rattle.std.proofs.Common.{◌≡◌, ◌≢◌, ℕ, zero, suc, ◌+◌, ◌<◌, ◌≤◌, Bool, true, false, ◌&&◌, ◌||◌, not, cond, eqb, refl, sym, ap, ◌∙◌, subst, List, [], ◌∷◌, ◌++◌, Option, Some, None, map, filter_map, length, take, get_or, arith}
+use Rattle.std.proofs.Common.{◌≡◌, ◌≢◌, ℕ, zero, suc, ◌+◌, ◌<◌, Bool, true, false, ◌&&◌, ◌||◌, not, cond, eqb, refl, sym, ap, ◌∙◌, subst, List, [], ◌∷◌, ◌++◌, Option, Some, None, map, filter_map, length, take, arith}
 use Rattle.std.specs.List.{AllByRecursion, list_any, cons_option, IsDistinct}
-use Rattle.std.specs.List.Sorted.{IsPermutation, IsNonDecreasing, IsNonDecreasingBy, IsStrictlyIncreasing}
-use Rattle.std.proofs.lemmas.List.{take_all, get_or-map, length-map}
+use Rattle.std.specs.List.Sorted.{IsPermutation, IsNonDecreasing, IsNonDecreasingBy}
+use Rattle.std.proofs.lemmas.List.{get_or-map, length-map}
 use Rattle.std.proofs.lemmas.List.Sorted.{list_any-IsPermutation}
 use Rattle.std.proofs.lemmas.Bool.Decides.{nat_tests}
 use Rattle.std.proofs.lemmas.Map.Keys.{IsDistinct-IsPermutation, IsStrictlyIncreasing-from_distinct}
 use Rattle.lvs_types.specs.declared.addr.DestId.{DestId}
-use Rattle.lvs_types.specs.declared.dest.DestRow.{DestRow}
 use Rattle.lvs_model.specs.Same.{dest_id_eq}
 use Rattle.lvs_dests.specs.declared.slots.Slot.{Slot}
 use Rattle.lvs_dests.specs.Rows.{has_row_id, is_trashed, IsTrashOf}
@@ -70,7 +69,7 @@ unfolding IsDistinct
 distinct_by slot ids true all rest = rest
 distinct_by slot ids false all rest = (all, rest)
 
-distinct_held : (slots : List Slot) → SlotsApart slots → IsDistinct dest_id_eq (filter_map (λ (s : Slot). cond s.row.dest.live None (Some (id_in s))) slots)
+distinct_held : (slots : List Slot) → SlotsApart id_in slots → IsDistinct dest_id_eq (filter_map (λ (s : Slot). cond s.row.dest.live None (Some (id_in s))) slots)
 unfolding IsDistinct
 distinct_held [] apart = tt
 distinct_held (slot ∷ slots) apart =
@@ -100,7 +99,7 @@ in_order ids rises i j d le within =
 -- what was collected, in order
 pub is_trash : (key_of : DestId → Option ℕ) (slots : List (Option Slot)) (ids : List DestId) → IsIndex id_in key_of (at_key slots) → IsPermutation (trashed_of slots) ids → IsNonDecreasingBy (λ (id : DestId). id.0) ids → IsTrashOf (rows_in slots) ids
 is_trash key_of slots ids index perm rises =
-    let apart = held_apart slots (λ key other slot x here there same. index_one decide_id id_in key_of (at_key slots) index key other slot x here there same) in
+    let apart = held_apart id_in slots (λ key other slot x here there same. index_one decide_id id_in key_of (at_key slots) index key other slot x here there same) in
     let distinct : IsDistinct dest_id_eq (trashed_of slots) = subst (IsDistinct dest_id_eq) (sym (from_held slots)) (distinct_held (held_by slots) apart) in
     record {
       rising = IsStrictlyIncreasing-from_distinct (map (λ (id : DestId). id.0) ids) (in_order ids rises) (numbers_distinct ids (IsDistinct-IsPermutation dest_id_eq same_flip (trashed_of slots) ids perm distinct));

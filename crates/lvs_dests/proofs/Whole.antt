@@ -1,24 +1,22 @@
 -- The pool through each change: what ties it, and its rows.
-use Rattle.std.proofs.Common.{◌≡◌, ◌≢◌, ℕ, ◌<◌, ◌≤◌, ◌+◌, ◌⊎◌, inl, inr, Bool, true, false, cond, refl, sym, ap, ◌∙◌, subst, List, [], ◌∷◌, ◌++◌, Option, Some, None, IsSome, IsSomeAnd, set, length, arith}
-use Rattle.std.specs.List.{AllByRecursion, find}
-use Rattle.std.specs.Map.{lookup}
+use Rattle.std.proofs.Common.{◌≡◌, ◌≢◌, ℕ, ◌<◌, ◌≤◌, ◌+◌, inl, inr, Bool, true, cond, refl, sym, ap, ◌∙◌, subst, List, [], ◌∷◌, ◌++◌, Option, Some, None, IsSomeAnd, set, length, arith}
+use Rattle.std.specs.List.{find}
 use Rattle.std.proofs.lemmas.Bool.{cases_eq}
 use Rattle.std.proofs.lemmas.List.{get_or-set_same, get_or-set_other, get_or_past}
 use Rattle.std.proofs.lemmas.Option.{none-some, same_Some}
-use Rattle.slab.specs.Slab.{Slab, get, Updates, ContainsKey}
+use Rattle.slab.specs.Slab.{Slab, get, Updates}
 use Rattle.lvs_types.specs.declared.addr.DestId.{DestId}
-use Rattle.lvs_types.specs.declared.dest.DestRow.{DestRow}
 use Rattle.lvs_dests.specs.declared.place.Place.{Place}
 use Rattle.lvs_dests.specs.declared.slots.Slot.{Slot}
 use Rattle.lvs_dests.specs.declared.pool.Pool.{Pool}
 use Rattle.lvs_dests.specs.Rows.{has_row_id, row_at, replaced}
-use Rattle.lvs_dests.specs.Places.{place_of, has_place}
-use Rattle.lvs_dests.specs.Pool.{Changed, IsIndex, IsWhole, IsSame, rows_in, rows_of, slot_at, key_of_id, key_of_place, id_in, place_in, AreApart, IsOneAt}
-use Rattle.lvs_dests.proofs.Same.{differ, apart, at_true, at_false, decide_id, decide_place, id_is, id_own, place_is, place_own}
+use Rattle.lvs_dests.specs.Places.{has_place}
+use Rattle.lvs_dests.specs.Pool.{Changed, IsWhole, IsSame, rows_of, slot_at, key_of_id, key_of_place, id_in, place_in, DifferInId, IsOneAt}
+use Rattle.lvs_dests.proofs.Same.{apart, at_true, at_false, decide_id, decide_place, id_is, id_own, place_is, place_own}
 use Rattle.lvs_dests.proofs.Index.{index_same, index_insert, index_take, index_write}
 use Rattle.lvs_dests.proofs.Occupied.{at_key}
 use Rattle.lvs_dests.proofs.Found.{find_nothing, found_there, only_there, nowhere, are_apart}
-use Rattle.lvs_dests.proofs.Changes.{rows_same, rows_replaced, rows_put}
+use Rattle.lvs_dests.proofs.Changes.{rows_replaced, rows_put}
 
 -- a change of the slab is one of its slots
 pub changed_slab : (old new : Slab Slot) (key : ℕ) (w : Option Slot) → Updates old new key w → Changed (get old) (get new) key w
@@ -51,7 +49,7 @@ module _ (pool : Pool) (whole : IsWhole pool) where
   place_tells : (place : Place) (s : Slot) → has_place place s.row ≡ true → place_in s ≡ place
   place_tells place s holds = place_is (place_in s) place holds
 
-  pub pool_apart : AreApart (rows_of pool)
+  pub pool_apart : DifferInId (rows_of pool)
   pool_apart = are_apart (key_of_id pool) pool.slab.slots whole.ids
 
   pub id_found : (id : DestId) (key : ℕ) (slot : Slot) → key_of_id pool id ≡ Some key → slot_at pool key ≡ Some slot → (id_in slot ≡ id) × (row_at id (rows_of pool) ≡ Some slot.row)

@@ -1,5 +1,5 @@
 -- The lists of the live servers of each service.
-use Rattle.std.specs.Prelude.{ℕ, ◌<◌, Bool, cond, List, [], Option, Some, None, IsSomeAnd, vec_len, vec_capacity}
+use Rattle.std.specs.Prelude.{◌<◌, Bool, cond, List, [], Option, Some, None, IsSomeAnd, vec_len, vec_capacity}
 use Rattle.std.specs.Global.{Vec}
 use Rattle.std.specs.Map.{lookup}
 use Rattle.lvs_types.specs.declared.addr.DestId.{DestId}
@@ -8,7 +8,6 @@ use Rattle.lvs_model.specs.Same.{dest_id_eq}
 use Rattle.lvs_dests.specs.declared.place.ServiceName.{ServiceName}
 use Rattle.lvs_dests.specs.contracts.place.ServiceNamePartialEq.TheImpl as name_impl
 use Rattle.lvs_dests.specs.declared.lists.Lists.{Lists}
-use Rattle.lvs_dests.specs.Places.{name_eq}
 
 abbrev pub has_candidate_id : DestId → Candidate → Bool
 has_candidate_id id candidate = dest_id_eq candidate.id id

@@ -2,7 +2,7 @@
 use Rattle.std.specs.Prelude.{◌≡◌, ◌≢◌, ℕ, ◌<◌, Bool, true, false, List, [], ◌∷◌, Option, Some, None, map, filter_map, if◌then◌else◌}
 use Rattle.std.specs.Map.{lookup}
 use Rattle.std.specs.List.{AllByRecursion, list_any}
-use Rattle.slab.specs.Slab.{Slab, get, values}
+use Rattle.slab.specs.Slab.{get}
 use Rattle.lvs_types.specs.declared.addr.DestId.{DestId}
 use Rattle.lvs_types.specs.contracts.addr.DestIdPartialEq.TheImpl as id_impl
 use Rattle.lvs_types.specs.declared.dest.DestRow.{DestRow}
@@ -83,9 +83,9 @@ pub record IsSame (old new : Pool) : Type 0 where
   pub sequence : new.sequence ≡ old.sequence
 
 -- no two servers have one id
-abbrev pub AreApart : List DestRow → Type 0
-AreApart [] = Unit {0}
-AreApart (row ∷ rows) = (list_any (has_row_id row.dest.id) rows ≡ false) × AreApart rows
+abbrev pub DifferInId : List DestRow → Type 0
+DifferInId [] = Unit {0}
+DifferInId (row ∷ rows) = (list_any (has_row_id row.dest.id) rows ≡ false) × DifferInId rows
 
 -- no other server stands at the place
 abbrev pub IsOneAt : Place → DestRow → List DestRow → Type 0

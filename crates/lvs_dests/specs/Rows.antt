@@ -1,6 +1,6 @@
 -- What the pool of servers holds, and what its calls answer and leave: the flat director's rules with each server's three numbers in place of the counts over entries and templates.
-use Rattle.std.specs.Prelude.{◌≡◌, ℕ, ◌+◌, ◌-◌, ◌<◌, ◌^◌, Bool, true, false, ◌&&◌, ◌==◌, not, List, [], ◌∷◌, ◌++◌, Option, Some, None, Result, Ok, Err, map, filter_map, if◌then◌else◌}
-use Rattle.std.specs.List.{find, filter, list_any}
+use Rattle.std.specs.Prelude.{◌≡◌, ℕ, ◌+◌, ◌-◌, ◌<◌, ◌^◌, Bool, true, false, ◌&&◌, ◌==◌, not, List, [], ◌∷◌, ◌++◌, Option, Some, None, Result, Ok, Err, map, filter_map, nat_eq, if◌then◌else◌}
+use Rattle.std.specs.List.{AllByRecursion, IsDistinct, find, filter, list_any}
 use Rattle.std.specs.List.Sorted.{IsStrictlyIncreasing}
 use Rattle.std.specs.Option.{option_map}
 use Rattle.lvs_types.specs.declared.addr.Addr.{Addr}
@@ -17,6 +17,7 @@ use Rattle.lvs_model.specs.Lookups.{has_dest_id, is_server_of, is_server_at}
 use Rattle.lvs_model.specs.Counts.{is_eligible}
 use Rattle.lvs_model.specs.Binding.{serves_at}
 use Rattle.lvs_model.specs.Edits.{is_revivable, new_dest}
+use Rattle.lvs_model.specs.WellFormed.{dest_ids, place_eq, places}
 use Rattle.lvs_dests.specs.declared.refused.DestRefused.{DestRefused}
 use Rattle.lvs_dests.specs.declared.refused.DestRefused.TheVariants as refused
 use Rattle.lvs_dests.specs.declared.refused.Removed.{Removed}
@@ -131,6 +132,15 @@ changed p f xs = map (λ x. if p x then f x else x) xs
 abbrev pub replaced : {X : Type 0} → (X → Bool) → Option X → List X → List X
 replaced p w xs = filter_map (λ x. if p x then w else Some x) xs
 
+abbrev pub dests_of : List DestRow → List Dest
+dests_of rows = map (λ row. row.dest) rows
+
+-- ids are apart, and below the next one, and no two servers, live or in the trash, stand at one place
+pub record AreWellFormed (seen : DestsSeen) : Type 0 where
+  pub ids : IsDistinct nat_eq (dest_ids (dests_of seen.rows))
+  pub below : AllByRecursion (λ (row : DestRow). row.dest.id.0 < seen.next) seen.rows
+  pub places : IsDistinct place_eq (places (dests_of seen.rows))
+
 -- the server of an id, live or in the trash
 abbrev pub row_at : DestId → List DestRow → Option DestRow
 row_at id rows = find (has_row_id id) rows
@@ -159,8 +169,8 @@ abbrev pub is_row_serving : ServiceKey → Addr → ℕ → ℕ → DestRow → 
 is_row_serving key daddr dport vport row = is_row_of key row && serves_at daddr dport vport row.dest
 
 -- the first one, by the binding rule
-abbrev pub serving : ServiceKey → Addr → ℕ → ℕ → List DestRow → Option DestId
-serving key daddr dport vport rows = option_map (λ (row : DestRow). row.dest.id) (find (is_row_serving key daddr dport vport) rows)
+abbrev pub serving : ServiceKey → Addr → ℕ → ℕ → List DestRow → Option Dest
+serving key daddr dport vport rows = option_map (λ (row : DestRow). row.dest) (find (is_row_serving key daddr dport vport) rows)
 
 -- ---- edits
 

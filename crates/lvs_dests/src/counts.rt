@@ -1,5 +1,5 @@
 //! The three numbers of a server, and its overload, as entries and templates come and go.
-ghost use Rattle.std.specs.Prelude.{◌≡◌, ◌<◌, ◌^◌, not, IsSomeAnd};
+ghost use Rattle.std.specs.Prelude.{◌≡◌, ◌<◌, ◌^◌, not, IfSome};
 ghost use Rattle.lvs_dests.specs.Rows.{row_at, change, named, bound, ended, shifted, held, unheld, IsFarBelow};
 
 use crate::dests::Dests;
@@ -8,9 +8,9 @@ use lvs_types::DestId;
 
 impl Dests {
     /// An entry was bound to the server: the active number rises where it is active, and else the
-    /// inactive one. Then overload is looked at.
+    /// inactive one. Then overload is looked at. An id that isn't there changes nothing.
     pub fn bind(&mut self, id: DestId, active: bool)
-        requires room { IsSomeAnd (row_at id self.old.rows) IsFarBelow }
+        requires room { IfSome (row_at id self.old.rows) IsFarBelow }
         ensures { self.new ≡ change id (bound active) self.old }
     {
         if let Some(row) = self.row(id) {
@@ -20,9 +20,9 @@ impl Dests {
     }
 
     /// An entry that named the server was ended: the active number falls where it was active, and
-    /// else the inactive one. Then overload is looked at.
+    /// else the inactive one. Then overload is looked at. An id that isn't there changes nothing.
     pub fn unbind(&mut self, id: DestId, active: bool)
-        requires some { IsSomeAnd (row_at id self.old.rows) (λ row. 0 < named active row) }
+        requires some { IfSome (row_at id self.old.rows) (λ row. 0 < named active row) }
         ensures { self.new ≡ change id (ended active) self.old }
     {
         if let Some(row) = self.row(id) {
@@ -33,9 +33,10 @@ impl Dests {
 
     /// An entry that names the server became active, or inactive: that number rises, and the other
     /// one falls. Overload stays.
+    /// An id that isn't there changes nothing.
     pub fn shift(&mut self, id: DestId, active: bool)
-        requires room { IsSomeAnd (row_at id self.old.rows) IsFarBelow }
-        requires some { IsSomeAnd (row_at id self.old.rows) (λ row. 0 < named (not active) row) }
+        requires room { IfSome (row_at id self.old.rows) IsFarBelow }
+        requires some { IfSome (row_at id self.old.rows) (λ row. 0 < named (not active) row) }
         ensures { self.new ≡ change id (shifted active) self.old }
     {
         if let Some(row) = self.row(id) {
@@ -45,8 +46,9 @@ impl Dests {
     }
 
     /// One more template names the server. Overload stays.
+    /// An id that isn't there changes nothing.
     pub fn hold(&mut self, id: DestId)
-        requires room { IsSomeAnd (row_at id self.old.rows) IsFarBelow }
+        requires room { IfSome (row_at id self.old.rows) IsFarBelow }
         ensures { self.new ≡ change id held self.old }
     {
         if let Some(row) = self.row(id) {
@@ -55,8 +57,9 @@ impl Dests {
     }
 
     /// One template less names the server. Overload stays.
+    /// An id that isn't there changes nothing.
     pub fn unhold(&mut self, id: DestId)
-        requires some { IsSomeAnd (row_at id self.old.rows) (λ row. 0 < row.templates) }
+        requires some { IfSome (row_at id self.old.rows) (λ row. 0 < row.templates) }
         ensures { self.new ≡ change id unheld self.old }
     {
         if let Some(row) = self.row(id) {

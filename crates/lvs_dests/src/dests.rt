@@ -2,7 +2,7 @@
 ghost use Rattle.std.specs.Prelude.{◌≡◌, [], IfOk};
 ghost use Rattle.std.specs.Option.{option_map, option_copied};
 ghost use Rattle.lvs_types.specs.declared.dest.DestRow.{DestRow};
-ghost use Rattle.lvs_dests.specs.Rows.{row_at, totals_of, serving, candidates_of};
+ghost use Rattle.lvs_dests.specs.Rows.{row_at, totals_of, serving, candidates_of, AreWellFormed};
 
 use crate::lists::Lists;
 use crate::place::ServiceName;
@@ -50,9 +50,11 @@ impl Dests {
         })
     }
 
-    /// The server of an id, live or in the trash.
+    /// The server of an id, live or in the trash. The ids of all servers are apart and below the
+    /// next one, and no two stand at one place.
     pub fn get(&self, id: DestId) -> Option<&Dest>
-        ensures { option_copied result ≡ option_map (λ (row : DestRow). row.dest) (row_at id self.now.rows) }
+        ensures well_formed { AreWellFormed self.now }
+        ensures dest { option_copied result ≡ option_map (λ (row : DestRow). row.dest) (row_at id self.now.rows) }
     {
         match self.pool.get(id) {
             Some(row) => Some(&row.dest),
@@ -72,16 +74,18 @@ impl Dests {
 
     /// The first live server of a service, in order of addition, at this address and either this
     /// port, or port 0 where this port is the virtual one.
-    pub fn find(&self, service: &ServiceKey, daddr: Addr, dport: u16, vport: u16) -> Option<DestId>
-        ensures { result ≡ serving service.now daddr dport vport self.now.rows }
+    pub fn find(&self, service: &ServiceKey, daddr: Addr, dport: u16, vport: u16) -> Option<&Dest>
+        ensures { option_copied result ≡ serving service.now daddr dport vport self.now.rows }
     {
         let candidates = self.lists.of(&ServiceName::of(service));
         first_serving(&self.pool, candidates, daddr, dport, vport)
     }
 
-    /// The live servers of a service, in order of addition, as a scheduler sees them.
+    /// The live servers of a service, in order of addition, as a scheduler sees them. The ids of
+    /// all servers are apart and below the next one, and no two stand at one place.
     pub fn candidates(&self, service: &ServiceKey) -> &[Candidate]
-        ensures { result.now ≡ candidates_of service.now self.now.rows }
+        ensures candidates { result.now ≡ candidates_of service.now self.now.rows }
+        ensures well_formed { AreWellFormed self.now }
     {
         self.lists.of(&ServiceName::of(service))
     }

@@ -1,6 +1,7 @@
 //! The real servers of a director, live and trashed, with running totals.
 #![tactic(auto)]
 
+mod candidates_after;
 mod counts;
 mod dests;
 mod edits;

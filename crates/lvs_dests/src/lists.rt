@@ -126,3 +126,11 @@ fn take_out(list: &mut Vec<Candidate>, id: DestId)
 {
     list.retain(|candidate| candidate.id != id);
 }
+
+/// The list with a candidate in the place of the one of its id.
+pub(crate) fn with_candidate(mut list: Vec<Candidate>, candidate: Candidate) -> Vec<Candidate>
+    ensures { result.items ≡ changed (has_candidate_id candidate.id) (λ _. candidate) list.items }
+{
+    overwrite(&mut list, candidate);
+    list
+}

@@ -4,7 +4,7 @@ ghost use Rattle.std.specs.List.{find};
 ghost use Rattle.lvs_types.specs.declared.dest.DestRow.{DestRow};
 ghost use Rattle.lvs_dests.specs.Rows.{has_row_id, row_at, replaced, change, is_row_at, is_row_revivable, is_known, is_live_row, placed_by, out_of_service};
 ghost use Rattle.lvs_dests.specs.Places.{place_at, has_place};
-ghost use Rattle.lvs_dests.specs.Pool.{AreApart};
+ghost use Rattle.lvs_dests.specs.Pool.{DifferInId};
 ghost use Rattle.lvs_dests.specs.Dests.{IsRevision, IsStanding, IsLiveAt};
 
 use crate::dests::Dests;
@@ -16,7 +16,7 @@ impl Dests {
     /// The server of an id.
     pub(crate) fn row(&self, id: DestId) -> Option<DestRow>
         ensures row { result ≡ row_at id self.now.rows }
-        ensures apart { AreApart self.now.rows }
+        ensures apart { DifferInId self.now.rows }
     {
         self.pool.get(id).copied()
     }
@@ -38,7 +38,7 @@ impl Dests {
         ensures row { result ≡ find (is_row_at service.now addr port) self.now.rows }
         ensures known { is_some result ≡ is_known service.now addr port self.now.rows }
         ensures there { IfSome result (IsLiveAt service.now addr port self.now.rows) }
-        ensures apart { AreApart self.now.rows }
+        ensures apart { DifferInId self.now.rows }
     {
         let Some(row) = self.pool.at(&Place::at(service, addr, port)) else {
             return None;

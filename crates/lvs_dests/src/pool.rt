@@ -10,7 +10,7 @@ ghost use Rattle.lvs_dests.specs.declared.place.Place.{Place};
 ghost use Rattle.lvs_dests.specs.Rows.{has_row_id, row_at, replaced};
 ghost use Rattle.lvs_dests.specs.Places.{place_of, has_place};
 ghost use Rattle.lvs_dests.specs.declared.slots.Slot.{Slot};
-ghost use Rattle.lvs_dests.specs.Pool.{IsWhole, rows_of, AreApart, IsOneAt, Changed, slot_at, key_of_id, key_of_place, IsSame};
+ghost use Rattle.lvs_dests.specs.Pool.{IsWhole, rows_of, DifferInId, IsOneAt, Changed, slot_at, key_of_id, key_of_place, IsSame};
 
 use crate::place::Place;
 use crate::slots::{self, Slot};
@@ -46,7 +46,7 @@ impl Pool {
     pub(crate) fn get(&self, id: DestId) -> Option<&DestRow>
         requires { IsWhole self.now }
         ensures row { option_copied result ≡ row_at id (rows_of self.now) }
-        ensures apart { AreApart (rows_of self.now) }
+        ensures apart { DifferInId (rows_of self.now) }
     {
         let Some(&key) = self.ids.get(&id) else {
             return None;
@@ -61,7 +61,7 @@ impl Pool {
     pub(crate) fn at(&self, place: &Place) -> Option<&DestRow>
         requires { IsWhole self.now }
         ensures row { option_copied result ≡ find (has_place place.now) (rows_of self.now) }
-        ensures apart { AreApart (rows_of self.now) }
+        ensures apart { DifferInId (rows_of self.now) }
         ensures one { IfSome result (λ row. IsOneAt place.now row.now (rows_of self.now)) }
     {
         let Some(&key) = self.places.get(place) else {

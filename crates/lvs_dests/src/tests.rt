@@ -214,7 +214,7 @@ fn a_removed_server_that_is_named_comes_back_with_its_id(rt: HostRuntime) -> Res
     assert_eq!(rt; dests.remove(&WEB, A, 80), Ok(Removed::Trashed));
     assert_eq!(rt; dests.get(DestId(1)).map(|d| d.live), Some(false));
     assert_eq!(rt; dests.candidates(&WEB).len(), 1);
-    assert_eq!(rt; dests.find(&WEB, A, 80, 80), None);
+    assert!(rt; dests.find(&WEB, A, 80, 80).is_none());
     assert_eq!(rt; dests.trash(rt.alloc())?.first().copied(), Some(DestId(1)));
     assert_eq!(rt; add(&mut dests, &WEB, &server(A)), Ok(DestId(1)));
     assert_eq!(rt; dests.totals(DestId(1)).map(|t| t.inactive), Some(1));
@@ -222,7 +222,7 @@ fn a_removed_server_that_is_named_comes_back_with_its_id(rt: HostRuntime) -> Res
         dests.candidates(&WEB).last().map(|c| c.id),
         Some(DestId(1))
     );
-    assert_eq!(rt; dests.find(&WEB, A, 80, 80), Some(DestId(1)));
+    assert_eq!(rt; dests.find(&WEB, A, 80, 80).map(|d| d.id), Some(DestId(1)));
     assert_eq!(rt; dests.remove(&WEB, B, 80), Ok(Removed::Released));
     assert_eq!(rt; add(&mut dests, &WEB, &server(B)), Ok(DestId(3)));
     assert!(rt; dests.get(DestId(2)).is_none());

@@ -1,5 +1,4 @@
-use Rattle.std.proofs.Common.{◌≡◌, ap, refl, Some, None}
-use Rattle.lvs_types.specs.declared.dest.DestRow.{DestRow}
+use Rattle.std.proofs.Common.{ap, refl, Some, None}
 use Rattle.lvs_dests.specs.Rows.{DestsSeen}
 use Rattle.lvs_dests.specs.Places.{place_at}
 use Rattle.lvs_dests.specs.Pool.{rows_of}

@@ -1,5 +1,4 @@
-use Rattle.std.proofs.Common.{◌≡◌, ◌∙◌, ◌∷◌, [], ◌++◌, ap, sym, refl, true, List, None}
-use Rattle.lvs_types.specs.declared.addr.DestId.{DestId}
+use Rattle.std.proofs.Common.{◌≡◌, ◌∙◌, ◌∷◌, [], ◌++◌, ap, sym}
 use Rattle.lvs_types.specs.declared.dest.DestRow.{DestRow}
 use Rattle.lvs_types.specs.declared.dest.Candidate.{Candidate}
 use Rattle.lvs_dests.specs.declared.place.ServiceName.{ServiceName}

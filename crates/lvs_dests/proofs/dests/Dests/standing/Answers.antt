@@ -1,9 +1,8 @@
-use Rattle.std.proofs.Common.{◌≡◌, ap, List}
-use Rattle.lvs_types.specs.declared.dest.DestRow.{DestRow}
+use Rattle.std.proofs.Common.{ap}
 use Rattle.lvs_dests.specs.Rows.{DestsSeen}
 use Rattle.lvs_dests.specs.Places.{place_at}
 use Rattle.lvs_dests.specs.Pool.{rows_of}
-use Rattle.lvs_dests.proofs.Standing.{Looked, looked, standing_known, standing_kept, standing_there, standing_free}
+use Rattle.lvs_dests.proofs.Standing.{looked, standing_known, standing_kept, standing_there}
 use Rattle.lvs_dests.proofs.dests.Dests.standing.Goals as goal
 
 pub returns-clause-known : goal.returns-clause-known

@@ -2,8 +2,6 @@ use Rattle.std.proofs.Common.{◌≡◌, ◌∙◌, ap, sym, Some, None}
 use Rattle.std.specs.Option.{option_copied}
 use Rattle.lvs_dests.specs.Pool.{key_of_id, slot_at}
 use Rattle.lvs_dests.proofs.Whole.{id_found, id_missed, pool_apart}
-use Rattle.lvs_dests.proofs.Listed.{served_pushed}
-use Rattle.lvs_dests.proofs.Narrow.{narrowed}
 use Rattle.lvs_dests.proofs.pool.Pool.get.Goals as goal
 
 pub returns-in_default-clause-row : goal.returns-in_default-clause-row

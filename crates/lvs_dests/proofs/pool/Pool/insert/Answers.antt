@@ -1,4 +1,4 @@
-use Rattle.std.proofs.Common.{◌≡◌, ◌∙◌, ◌+◌, ◌∷◌, [], ◌++◌, ap, sym, refl, None, List}
+use Rattle.std.proofs.Common.{◌≡◌, ◌∙◌, ◌+◌, ◌∷◌, [], ◌++◌, ap, sym, refl, List}
 use Rattle.std.specs.List.{find}
 use Rattle.lvs_types.specs.declared.dest.DestRow.{DestRow}
 use Rattle.lvs_dests.specs.declared.slots.Slot.{Slot}

@@ -1,0 +1,17 @@
+use Rattle.std.proofs.Common.{◌≡◌, ◌∙◌, ap, sym, subst, IfOk}
+use Rattle.lvs_dests.specs.Rows.{DestsSeen, ended, look_ended, candidates_of}
+use Rattle.lvs_dests.proofs.Tied.{change_missed, counted_there, counted_for, ended_keeps, ended_id}
+use Rattle.lvs_dests.proofs.dests.Dests.candidates_after_ending.Goals as goal
+
+pub candidates_with-requires-clause-there : goal.candidates_with-requires-clause-there
+candidates_with-requires-clause-there c =
+    counted_there (ended c.args.active) (ended_keeps c.args.active) (ended_id c.args.active) c.args.id c.args.self.now c.in-Some.row c.after_ending.result c.in-Some.ensures.row (c.after_ending.ensures ∙ ap look_ended c.lower-row.ensures)
+
+pub returns-in-Some : goal.returns-in-Some
+returns-in-Some c =
+    counted_for (ended c.args.active) (ended_keeps c.args.active) (ended_id c.args.active) c.args.id c.args.self.now c.in-Some.row c.after_ending.result c.in-Some.ensures.row (c.after_ending.ensures ∙ ap look_ended c.lower-row.ensures)
+    (λ (seen : DestsSeen). IfOk c.candidates_with.result (λ v. v.items ≡ candidates_of c.args.service.now seen.rows)) c.candidates_with.ensures
+
+pub returns-in-None : goal.returns-in-None
+returns-in-None c =
+    subst (λ (seen : DestsSeen). IfOk c.copy_candidates.result (λ v. v.items ≡ candidates_of c.args.service.now seen.rows)) (change_missed c.args.id (ended c.args.active) c.args.self.now (sym c.in-None.ensures.row)) c.copy_candidates.ensures
