@@ -7,5 +7,7 @@ mod learnt;
 mod looking;
 mod packets;
 mod protocol;
+#[cfg(test)]
+mod tests;
 
 pub use bucket::Bucket;

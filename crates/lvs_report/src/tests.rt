@@ -1,8 +1,8 @@
 //! One line for each text of a reply.
 use crate::{print_icmp_answer, print_round};
 use lvs_types::{
-    Addr, BadSync, Bytes, DropCause, EditRefused, IcmpAnswer, Item, Learnt, Listed, Malformed, Method,
-    NoMemory, Noted, Reply, RoundBook, Shown, ShownText,
+    Addr, BadSync, Bytes, DropCause, EditRefused, IcmpAnswer, Item, Learnt, Listed, Malformed,
+    Method, NoMemory, Noted, Reply, RoundBook, Shown, ShownText,
 };
 use std::alloc::Global;
 use std::test::Fail;
