@@ -3,7 +3,8 @@
 ghost use Rattle.std.specs.Prelude.{◌≡◌, ◌&&◌, nat_lt};
 
 use crate::{DestRefused, Dests, Removed, Totals};
-use lvs_types::{Addr, DestId, DestRow, DestSpec, Method, Proto, ServiceKey};
+use lvs_types::{Addr, Candidate, DestId, DestRow, DestSpec, Method, NoMemory, Proto, ServiceKey};
+use std::alloc::Global;
 use std::test::Fail;
 
 const WEB: ServiceKey = ServiceKey::Net {
@@ -107,6 +108,31 @@ fn unhold(dests: &mut Dests, id: DestId) {
             dests.unhold(id);
         }
     }
+}
+
+/// The web service's servers once an active entry had been bound to a server that is there.
+fn with_one_more(alloc: Global, dests: &Dests, id: DestId) -> Result<Vec<Candidate>, NoMemory> {
+    if let Some(row) = dests.row(id) {
+        if has_room(&row) {
+            return dests.candidates_after_binding(alloc, &WEB, id, true);
+        }
+    }
+    Ok(Vec::new(alloc))
+}
+
+/// The web service's servers once an active entry of a server that has one had ended.
+fn with_one_less(alloc: Global, dests: &Dests, id: DestId) -> Result<Vec<Candidate>, NoMemory> {
+    if let Some(row) = dests.row(id) {
+        if 0 < row.active {
+            return dests.candidates_after_ending(alloc, &WEB, id, true);
+        }
+    }
+    Ok(Vec::new(alloc))
+}
+
+/// The active connections of the first server, and whether it is eligible.
+fn first(candidates: &[Candidate]) -> Option<(u64, bool)> {
+    candidates.first().map(|c| (c.active, c.eligible))
 }
 
 /// The eligible servers of the web service.
@@ -279,5 +305,23 @@ fn refusals_come_in_their_order(rt: HostRuntime) -> Result<(), Fail> {
     assert_eq!(rt; dests.edit(&WEB, &crossed), Err(DestRefused::Thresholds));
     assert_eq!(rt; add(&mut dests, &MARKED, &server(A)), Ok(DestId(2)));
     assert_eq!(rt; dests.remove(&MARKED, A, 81), Err(DestRefused::NoDest));
+    Ok(())
+}
+
+#[test]
+fn an_event_to_come_is_told_and_changes_nothing(rt: HostRuntime) -> Result<(), Fail> {
+    let alloc = rt.alloc();
+    let mut dests = Dests::new(alloc)?;
+    assert_eq!(rt;
+        add(&mut dests, &WEB, &with_thresholds(1, 0)),
+        Ok(DestId(1))
+    );
+    let bound = with_one_more(alloc, &dests, DestId(1))?;
+    assert_eq!(rt; first(&bound), Some((1, false)));
+    assert_eq!(rt; first(dests.candidates(&WEB)), Some((0, true)));
+    bind(&mut dests, DestId(1), true);
+    let ended = with_one_less(alloc, &dests, DestId(1))?;
+    assert_eq!(rt; first(&ended), Some((0, true)));
+    assert_eq!(rt; first(dests.candidates(&WEB)), Some((1, false)));
     Ok(())
 }
