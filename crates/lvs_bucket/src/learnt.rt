@@ -3,9 +3,8 @@ ghost use Rattle.std.specs.Prelude.{◌≡◌};
 ghost use Rattle.lvs_model.specs.SyncRules.{is_template_record};
 ghost use Rattle.lvs_model.specs.Buckets.{key_of_record as key_by, key_of_learnt, recorded_in};
 
-use crate::protocol::proto_of;
 use lvs_entries::Entries;
-use lvs_types::{Entry, Key, SyncItem, SyncRecord};
+use lvs_types::{Entry, Key, Proto, SyncItem, SyncRecord};
 
 /// The flag of a template's record.
 const TEMPLATE: u32 = 0x1000;
@@ -23,7 +22,7 @@ fn key_of_record(r: &SyncRecord) -> Option<Key>
     if is_template(r) {
         return None;
     }
-    let proto = proto_of(r.code)?;
+    let proto = Proto::of_code(r.code)?;
     Some(Key {
         proto,
         caddr: r.caddr,

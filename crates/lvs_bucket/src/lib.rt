@@ -6,7 +6,6 @@ mod changes;
 mod learnt;
 mod looking;
 mod packets;
-mod protocol;
 #[cfg(test)]
 mod tests;
 

@@ -2,48 +2,23 @@
 ghost use Rattle.std.specs.Prelude.{◌≡◌};
 ghost use Rattle.std.specs.Option.{option_copied};
 ghost use Rattle.lvs_types.specs.Transport.{transport_of};
-ghost use Rattle.lvs_model.specs.Packets.{key_of as key_by};
 ghost use Rattle.lvs_model.specs.Buckets.{keyed_in, answered_in, incoming_in, outgoing_in};
 
-use crate::protocol::proto_of;
 use lvs_entries::Entries;
-use lvs_types::{Entry, Head, Key, Proto};
-
-/// The protocol of a packet: none for a fragment, and for others than TCP and UDP.
-fn transport(head: &Head) -> Option<Proto>
-    ensures { result ≡ transport_of head.now }
-{
-    if head.fragment {
-        None
-    } else {
-        proto_of(head.code)
-    }
-}
-
-/// The key of an incoming packet: the client's side is the source.
-fn key_of(proto: Proto, head: &Head) -> Key
-    ensures { result ≡ key_by proto head.now }
-{
-    Key {
-        proto,
-        caddr: head.src,
-        cport: head.sport,
-        vaddr: head.dst,
-        vport: head.dport,
-    }
-}
+use lvs_keys::key_of_packet;
+use lvs_types::{Entry, Head};
 
 fn find_key(entries: &Entries, head: &Head) -> Option<Entry>
     ensures { result ≡ keyed_in entries.now.entries head.now (transport_of head.now) }
 {
-    let proto = transport(head)?;
-    entries.find_in(&key_of(proto, head)).copied()
+    let proto = head.transport()?;
+    entries.find_in(&key_of_packet(proto, head)).copied()
 }
 
 fn find_reply(entries: &Entries, head: &Head) -> Option<Entry>
     ensures { result ≡ answered_in entries.now.entries head.now (transport_of head.now) }
 {
-    let proto = transport(head)?;
+    let proto = head.transport()?;
     entries
         .find_out(proto, head.src, head.sport, head.dst, head.dport)
         .copied()

@@ -3,7 +3,6 @@ use Rattle.std.proofs.Common.{◌≡◌, ℕ, ◌+◌, ◌-◌, ◌<◌, ◌≤�
 use Rattle.std.specs.List.{AllByRecursion, find}
 use Rattle.std.proofs.lemmas.Bool.{eqb-true, eqb-false, eq-eqb}
 use Rattle.std.proofs.lemmas.List.{length-set}
-use Rattle.std.proofs.lemmas.List.Sums.{length-filter}
 use Rattle.lvs_types.specs.declared.entry.Key.{Key}
 use Rattle.lvs_types.specs.declared.entry.Entry.{Entry}
 use Rattle.lvs_model.specs.Lists.{sorted_by, insert_by}
@@ -11,7 +10,7 @@ use Rattle.lvs_model.specs.Lookups.{has_key, has_entry_id, entry_at}
 use Rattle.lvs_entries.specs.Chains.{key_chain}
 use Rattle.lvs_entries.specs.Seen.{ChainSeen}
 use Rattle.lvs_entries.specs.Store.{Belongs, AreChained, IsStore, all_of, entries_in}
-use Rattle.lvs_model.proofs.OrderLemmas.{all_weaker, sorted_put, filter_none, none_found, find_none, find_sorted, count_put, join_front, join_back, all_join, put_once}
+use Rattle.lvs_model.proofs.OrderLemmas.{all_weaker, sorted_put, none_found, find_none, find_sorted, join_front, join_back, all_join, put_once}
 use Rattle.lvs_entries.proofs.Listed.{id_of}
 use Rattle.lvs_entries.proofs.Chained.{IsPut, chain_at, chained_set, chained_moved, put_at}
 use Rattle.lvs_entries.proofs.Belonging.{key_same}

@@ -1,4 +1,3 @@
-pub mod Least
 pub mod Updates
 pub mod Rooms
 pub mod Listed

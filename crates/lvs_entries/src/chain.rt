@@ -6,8 +6,8 @@ ghost use Rattle.lvs_model.specs.Lookups.{has_entry_id, entry_at, reply_entry};
 ghost use Rattle.lvs_model.specs.Binding.{put_entry};
 ghost use Rattle.lvs_entries.specs.Keyed.{IsTaken};
 
-use crate::reply::{ReplySides, lower};
 use indexmap::IndexMap;
+use lvs_keys::{ReplySides, lower};
 use lvs_types::{Entry, Key, NoMemory, Steps};
 use std::alloc::Global;
 use std::marker::Model;
@@ -54,7 +54,7 @@ fn first_of_key<'a, L: Ledger>(
 }
 
 /// The entry of a reply: the one of least id. A step is one entry compared.
-#[tactic(auto, using(crate::proofs::Least::lead_more))]
+#[tactic(auto, using(lvs_keys::proofs::Least::lead_more))]
 fn least_of_reply<'a, L: Ledger>(
     entries: &'a [Entry],
     sides: &ReplySides,

@@ -12,7 +12,7 @@ ghost use Rattle.lvs_entries.specs.Seen.{AreListed};
 use crate::chain::Chain;
 use crate::chains::{gather, make_chains, make_room};
 use crate::number::{chain_of, chain_of_key};
-use crate::reply::ReplySides;
+use lvs_keys::ReplySides;
 use lvs_types::{Addr, Entry, Key, NoMemory, Proto, Steps};
 use std::alloc::Global;
 use std::collections::HashMap;

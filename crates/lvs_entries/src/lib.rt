@@ -5,7 +5,6 @@ mod chain;
 mod chains;
 mod entries;
 mod number;
-mod reply;
 #[cfg(test)]
 mod tests;
 pub mod worked_examples;

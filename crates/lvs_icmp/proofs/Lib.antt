@@ -1,4 +1,3 @@
-pub mod Least
 pub mod Messages
 pub mod Headers
 pub mod Restored

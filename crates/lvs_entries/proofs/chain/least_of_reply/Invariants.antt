@@ -1,7 +1,7 @@
 use Rattle.std.proofs.Common.{◌≡◌, ◌<◌, ◌≤◌, ◌+◌, drop, OnSome}
 use Rattle.std.specs.Option.{option_copied}
 use Rattle.lvs_model.specs.Lookups.{reply_entry}
-use Rattle.lvs_entries.proofs.Least.{lead}
+use Rattle.lvs_keys.proofs.Least.{lead}
 use Rattle.lvs_entries.proofs.chain.least_of_reply.Given as goal
 
 abbrev pub invariant-loop-e : goal.invariant-loop-e

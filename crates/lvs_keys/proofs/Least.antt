@@ -3,7 +3,7 @@ use Rattle.std.proofs.Common.{◌≡◌, cond, Option, Some, None, refl, arith, 
 use Rattle.std.proofs.lemmas.Bool.Decides.{nat_tests}
 use Rattle.lvs_types.specs.declared.entry.Entry.{Entry}
 use Rattle.lvs_model.specs.Lists.{lower_of}
-use Rattle.lvs_entries.specs.Least.{older}
+use Rattle.lvs_keys.specs.Least.{older}
 
 abbrev pub lead : Option Entry → Option Entry → Option Entry
 lead None o = o
