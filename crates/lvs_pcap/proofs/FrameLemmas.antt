@@ -59,9 +59,7 @@ script_refused net bits step script capture NoMemory is = tt
 
 -- A LOOP OVER FRAMES
 
-pub stop_frames : (rule : FrameRule) (at before i : ℕ) (frames : List Frame) (frame : Frame) (m : Made) (whole : Result Made BadCapture) (refused : CaptureRefused) → i < length frames → frame ≡ slice_index_or frames i frame → with_frames rule at before (drop i frames) m ≡ whole → ((later : List Frame) → IsRefusal (with_frames rule at before (frame ∷ later) m) refused) → IsRefusal whole refused
-stop_frames rule at before i frames frame m whole refused within is so_far stops =
-    let here : drop i frames ≡ slice_index_or frames i frame ∷ drop (i + 1) frames = rw add-one (drop-cons frames i frame within) in
-    let this : drop i frames ≡ frame ∷ drop (i + 1) frames = rw (← is) at here in
-    let parts : with_frames rule at before (frame ∷ drop (i + 1) frames) m ≡ whole = rw this at so_far in
-    rw parts at (stops (drop (i + 1) frames))
+pub stop_frames : (rule : FrameRule) (at before : ℕ) (left later : List Frame) (frame : Frame) (m : Made) (whole : Result Made BadCapture) (refused : CaptureRefused) → left ≡ frame ∷ later → with_frames rule at before left m ≡ whole → ((more : List Frame) → IsRefusal (with_frames rule at before (frame ∷ more) m) refused) → IsRefusal whole refused
+stop_frames rule at before left later frame m whole refused is so_far stops =
+    let parts : with_frames rule at before (frame ∷ later) m ≡ whole = rw is at so_far in
+    rw parts at (stops later)

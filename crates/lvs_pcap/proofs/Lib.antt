@@ -3,3 +3,4 @@ pub mod Again
 pub mod CountLemmas
 pub mod RoundLemmas
 pub mod FrameLemmas
+pub mod WithinLemmas

@@ -1,13 +1,14 @@
 //! The script that a capture makes of a script.
 ghost use Rattle.std.specs.Prelude.{◌≡◌, ◌≤◌, ◌<◌, ◌+◌, ◌++◌, ◌∷◌, List, max, OnOk, OnErr, IfErr, IfOk, MatchResult, Ok, Err};
 ghost use Rattle.lvs_model.specs.Captured.{captured as spec_captured, last_moment as spec_last_moment, moment_after as spec_moment_after};
+ghost use Rattle.lvs_model.specs.ScriptLimits.{IsWithinLimits};
 ghost use Rattle.lvs_types.specs.declared.capture.Frame.{Frame as FrameSeen};
 ghost use Rattle.lvs_pcap.specs.Frames.{with_frames, rounds_result, none_made_behind};
-ghost use Rattle.lvs_pcap.specs.Reading.{IsRefusal};
+ghost use Rattle.lvs_pcap.specs.Reading.{IsRefusal, AreInSeconds};
 
 use crate::counting::count_rounds;
 use crate::making::RoundMaker;
-use crate::packets::{FrameRule, ip_of, packet_line};
+use crate::packets::{FrameRule, into_ip, packet_line};
 use crate::refused::CaptureRefused;
 use lvs_types::{Addr, Capture, Frame, Listed, NoMemory, Round, Script};
 use std::alloc::Global;
@@ -21,19 +22,22 @@ use std::mem;
 /// agrees with `net` in the first `bits` bits, else an incoming one with mark 0. TooManyRounds comes
 /// at the record whose round would be the 4,097th, TooManyItems at the one whose item would be the
 /// 1,048,577th; the earlier record counts, and at one record TooManyRounds. After a refusal the
-/// script is as before.
+/// script is as before. A script within its limits stays within them.
+///
+/// A packet's bytes move from its frame into its line.
 pub fn captured(
     alloc: Global,
     net: Addr,
     bits: u8,
     step: u32,
     script: &mut Script,
-    capture: &Capture,
+    capture: Capture,
 ) -> Result<(), CaptureRefused>
     requires bits { bits ≤ 32 }
     requires step { 0 < step }
-    ensures ok { OnOk result (spec_captured net bits step script.old capture.now ≡ Ok script.new) }
-    ensures refused { IfErr result (IsRefusal (spec_captured net bits step script.old capture.now)) }
+    ensures ok { OnOk result (spec_captured net bits step script.old capture ≡ Ok script.new) }
+    ensures within { OnOk result (IsWithinLimits script.old.rounds → AreInSeconds capture.frames → IsWithinLimits script.new.rounds) }
+    ensures refused { IfErr result (IsRefusal (spec_captured net bits step script.old capture)) }
     ensures kept { OnErr result (script.new ≡ script.old) }
 {
     let rule = FrameRule {
@@ -42,7 +46,7 @@ pub fn captured(
         bits,
         step,
     };
-    let frames = capture.frames.as_slice();
+    let frames = capture.frames.into_vec();
     let mut rounds = make_rounds(alloc, rule, script.rounds.as_slice(), frames)?;
     Ok(append_rounds(alloc, script, &mut rounds)?)
 }
@@ -52,18 +56,18 @@ fn make_rounds(
     alloc: Global,
     rule: FrameRule,
     script: &[Round],
-    frames: &[Frame],
+    frames: Vec<Frame>,
 ) -> Result<Vec<Round>, CaptureRefused>
     requires bits { rule.bits ≤ 32 }
     requires step { 0 < rule.step }
-    ensures ok { IfOk result (λ rounds. rounds_result (with_frames rule 1 (spec_last_moment script.now) frames.now (none_made_behind script.now)) ≡ Ok rounds.items) }
-    ensures refused { IfErr result (IsRefusal (with_frames rule 1 (spec_last_moment script.now) frames.now (none_made_behind script.now))) }
+    ensures ok { IfOk result (λ rounds. rounds_result (with_frames rule 1 (spec_last_moment script.now) frames.items (none_made_behind script.now)) ≡ Ok rounds.items) }
+    ensures refused { IfErr result (IsRefusal (with_frames rule 1 (spec_last_moment script.now) frames.items (none_made_behind script.now))) }
 {
     let mut maker = RoundMaker::new(alloc, script.len(), count_rounds(alloc, script)?);
     let mut moment = last_moment(script);
     let mut at = 1u64;
     for frame in frames {
-        moment = take_frame(alloc, rule, &mut maker, at, moment, frame)?;
+        moment = take_frame(rule, &mut maker, at, moment, frame)?;
         at += 1;
     }
     Ok(maker.finish()?)
@@ -72,23 +76,23 @@ fn make_rounds(
 /// One more frame, of the record of that number, behind a packet of that moment; and the moment
 /// behind it.
 fn take_frame(
-    alloc: Global,
     rule: FrameRule,
     maker: &mut RoundMaker,
     at: u64,
     before: u64,
-    frame: &Frame,
+    frame: Frame,
 ) -> Result<u64, CaptureRefused>
     requires bits { rule.bits ≤ 32 }
     requires step { 0 < rule.step }
-    ensures ok { IfOk result (λ moment. (later : List FrameSeen) → with_frames rule at before (frame.now ∷ later) maker.old ≡ with_frames rule (at + 1) moment later maker.new) }
-    ensures refused { IfErr result (λ refused. (later : List FrameSeen) → IsRefusal (with_frames rule at before (frame.now ∷ later) maker.old) refused) }
+    ensures ok { IfOk result (λ moment. (later : List FrameSeen) → with_frames rule at before (frame ∷ later) maker.old ≡ with_frames rule (at + 1) moment later maker.new) }
+    ensures refused { IfErr result (λ refused. (later : List FrameSeen) → IsRefusal (with_frames rule at before (frame ∷ later) maker.old) refused) }
 {
-    let Some(bytes) = ip_of(rule.link, frame) else {
+    let seconds = frame.seconds;
+    let Some(bytes) = into_ip(rule.link, frame) else {
         return Ok(before);
     };
-    let moment = moment_after(rule.step, before, frame.seconds);
-    maker.take_packet(at, moment, packet_line(alloc, rule, bytes)?)?;
+    let moment = moment_after(rule.step, before, seconds);
+    maker.take_packet(at, moment, packet_line(rule, bytes))?;
     Ok(moment)
 }
 

@@ -18,4 +18,4 @@ pub use captured_script::captured;
 pub use packets::ip_of;
 pub use reading::read_capture;
 pub use refused::CaptureRefused;
-pub use writing::write_capture;
+pub use writing::{append_header, append_packet, write_capture};

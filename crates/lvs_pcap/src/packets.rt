@@ -1,5 +1,5 @@
 //! The packet of a frame, and where it comes from.
-ghost use Rattle.std.specs.Prelude.{◌≡◌, ◌≤◌, length, IfOk};
+ghost use Rattle.std.specs.Prelude.{◌≡◌, ◌≤◌, length, drop, IfSome};
 ghost use Rattle.std.specs.Option.{option_map};
 ghost use Rattle.lvs_model.specs.CaptureFiles.{ip_of as spec_ip_of, is_ipv4 as spec_is_ipv4};
 ghost use Rattle.lvs_model.specs.Fields.{addr_at};
@@ -7,8 +7,7 @@ ghost use Rattle.lvs_model.specs.Captured.{agree_in as spec_agree_in, is_outgoin
 
 use crate::places::{ETHERNET, RAW_IP};
 use byteorder::{BigEndian, ByteOrder};
-use lvs_types::{Addr, Bytes, Frame, NoMemory, ScriptLine};
-use std::alloc::Global;
+use lvs_types::{Addr, Bytes, Frame, ScriptLine};
 
 /// The bytes of an Ethernet header, and the place of its type (RFC 894).
 const ETHERNET_HEADER: usize = 14;
@@ -28,20 +27,48 @@ fn is_ipv4(bytes: &[u8]) -> bool
     bytes.len() >= ETHERNET_HEADER && BigEndian::read_u16(&bytes[ETHERNET_TYPE..]) == IPV4
 }
 
+/// Where the IP bytes of a frame begin, by the link type of its capture.
+fn place_of_ip(link: u32, frame: &Frame) -> Option<usize>
+    ensures place { option_map (λ place. drop place frame.now.bytes) result ≡ spec_ip_of link frame.now }
+    ensures there { IfSome result (λ place. place ≤ length frame.now.bytes) }
+{
+    if link == RAW_IP {
+        Some(0)
+    } else if link == ETHERNET && is_ipv4(frame.bytes.as_slice()) {
+        Some(ETHERNET_HEADER)
+    } else {
+        None
+    }
+}
+
 /// The IP bytes of a frame, by the link type of its capture: of raw IP (101) all of them, of
 /// Ethernet (1) those from 14 on. There are none exactly where the link is neither, or is Ethernet
 /// and the frame has fewer than 14 bytes or a type other than 08 00. It takes no memory.
 pub fn ip_of(link: u32, frame: &Frame) -> Option<&[u8]>
     ensures { option_map (λ packet. packet.now) result ≡ spec_ip_of link frame.now }
 {
-    let bytes = frame.bytes.as_slice();
-    if link == RAW_IP {
-        Some(bytes)
-    } else if link == ETHERNET && is_ipv4(bytes) {
-        Some(&bytes[ETHERNET_HEADER..])
-    } else {
-        None
-    }
+    let place = place_of_ip(link, frame)?;
+    Some(&frame.bytes.as_slice()[place..])
+}
+
+/// The bytes from a place on, in the memory of all of them.
+fn bytes_from(bytes: Bytes, place: usize) -> Bytes
+    requires { place ≤ length bytes }
+    ensures { result ≡ drop place bytes }
+{
+    let mut bytes = bytes.into_vec();
+    let rest = bytes.len() - place;
+    bytes.rotate_left(place);
+    bytes.truncate(rest);
+    Bytes::from_vec(bytes)
+}
+
+/// The IP bytes of a frame as those of `ip_of`, moved out of it.
+pub(crate) fn into_ip(link: u32, frame: Frame) -> Option<Bytes>
+    ensures { result ≡ spec_ip_of link frame }
+{
+    let place = place_of_ip(link, &frame)?;
+    Some(bytes_from(frame.bytes, place))
 }
 
 /// How the frames of a capture become lines of a script.
@@ -84,21 +111,13 @@ fn is_outgoing(rule: FrameRule, bytes: &[u8]) -> bool
 }
 
 /// The line of a packet.
-pub(crate) fn packet_line(
-    alloc: Global,
-    rule: FrameRule,
-    bytes: &[u8],
-) -> Result<ScriptLine, NoMemory>
+pub(crate) fn packet_line(rule: FrameRule, bytes: Bytes) -> ScriptLine
     requires { rule.bits ≤ 32 }
-    ensures { IfOk result (λ line. line ≡ spec_packet_line rule.net rule.bits bytes.now) }
+    ensures { result ≡ spec_packet_line rule.net rule.bits bytes }
 {
-    let copy = Bytes::copied(alloc, bytes)?;
-    if is_outgoing(rule, bytes) {
-        Ok(ScriptLine::Outgoing(copy))
+    if is_outgoing(rule, bytes.as_slice()) {
+        ScriptLine::Outgoing(bytes)
     } else {
-        Ok(ScriptLine::Incoming {
-            mark: 0,
-            bytes: copy,
-        })
+        ScriptLine::Incoming { mark: 0, bytes }
     }
 }

@@ -1,7 +1,7 @@
 //! Reading capture files.
 ghost use Rattle.std.specs.Prelude.{◌≡◌, ◌≤◌, ◌+◌, length, drop, MatchResult, Ok, Err, IfOk, IfErr};
 ghost use Rattle.lvs_model.specs.CaptureFiles.{capture_of, frames_behind, frame_of, frame_read, captured_length};
-ghost use Rattle.lvs_pcap.specs.Reading.{IsRefusal};
+ghost use Rattle.lvs_pcap.specs.Reading.{IsRefusal, AreInSeconds};
 
 use crate::fields::number;
 use crate::header::{link_of, read_header};
@@ -18,7 +18,8 @@ use std::alloc::Global;
 /// bytes; Magic; Version, not 2.4; Link, not 1 (Ethernet) or 101 (raw IP). Then the first record of
 /// which fewer than 16 bytes or fewer than its captured bytes are there is refused for RecordShort.
 pub fn read_capture(alloc: Global, bytes: &[u8]) -> Result<Capture, CaptureRefused>
-    ensures { MatchResult result (λ capture. capture_of bytes.now ≡ Ok capture) (λ refused. IsRefusal (capture_of bytes.now) refused) }
+    ensures read { MatchResult result (λ capture. capture_of bytes.now ≡ Ok capture) (λ refused. IsRefusal (capture_of bytes.now) refused) }
+    ensures seconds { IfOk result (λ capture. AreInSeconds capture.frames) }
 {
     let order = read_header(bytes)?;
     let frames = read_frames(alloc, order, bytes)?;
@@ -35,7 +36,8 @@ fn read_frames(
     bytes: &[u8],
 ) -> Result<Listed<Frame>, CaptureRefused>
     requires { 24 ≤ length bytes.now }
-    ensures { MatchResult result (λ frames. frames_behind order 1 24 bytes.now ≡ Ok frames) (λ refused. IsRefusal (frames_behind order 1 24 bytes.now) refused) }
+    ensures read { MatchResult result (λ frames. frames_behind order 1 24 bytes.now ≡ Ok frames) (λ refused. IsRefusal (frames_behind order 1 24 bytes.now) refused) }
+    ensures seconds { IfOk result (λ frames. AreInSeconds frames) }
 {
     let mut frames = Vec::new(alloc);
     let mut rest = rest_from(bytes, FILE_HEADER);
@@ -65,6 +67,7 @@ fn next_frame(
     bytes: &[u8],
 ) -> Result<(Frame, &[u8]), CaptureRefused>
     ensures read { IfOk result (λ next. frame_read order at bytes.now ≡ Ok next.0) }
+    ensures seconds { IfOk result (λ next. next.0.seconds ≤ 4294967295) }
     ensures rest { IfOk result (λ next. next.1.now ≡ drop (16 + length next.0.bytes) bytes.now) }
     ensures there { IfOk result (λ next. 16 + length next.0.bytes ≤ length bytes.now) }
     ensures refused { IfErr result (IsRefusal (frame_read order at bytes.now)) }
@@ -102,6 +105,7 @@ fn read_frame(
     requires told { captured ≡ captured_length order bytes.now }
     requires there { 16 + captured ≤ length bytes.now }
     ensures frame { IfOk result (λ frame. frame ≡ frame_of order bytes.now) }
+    ensures seconds { IfOk result (λ frame. frame.seconds ≤ 4294967295) }
     ensures size { IfOk result (λ frame. length frame.bytes ≡ captured) }
 {
     Ok(Frame {

@@ -1,6 +1,7 @@
 //! Writing capture files.
-ghost use Rattle.std.specs.Prelude.{◌≡◌, ◌++◌, IfOk, OnOk, All, Ok, flat_map};
+ghost use Rattle.std.specs.Prelude.{◌≡◌, ◌≤◌, ◌++◌, length, IfOk, OnOk, All, Ok, flat_map};
 ghost use Rattle.lvs_model.specs.CaptureFiles.{capture_of, capture_bytes, header_bytes, record_bytes};
+ghost use Rattle.lvs_model.specs.Captured.{sent_frame};
 ghost use Rattle.lvs_pcap.specs.Reading.{IsWhole};
 
 use crate::fields::{put_bytes, put_number, put_word};
@@ -22,7 +23,7 @@ pub fn write_capture(alloc: Global, frames: &[Frame]) -> Result<Bytes, NoMemory>
     ensures again { IfOk result (λ bytes. capture_of bytes ≡ Ok (record { link = 101; frames = frames.now })) }
 {
     let mut out = Vec::with_capacity(alloc, file_size(frames))?;
-    put_header(&mut out)?;
+    append_header(&mut out)?;
     for frame in frames {
         put_record(&mut out, frame)?;
     }
@@ -40,7 +41,8 @@ fn file_size(frames: &[Frame]) -> usize {
     size
 }
 
-fn put_header(out: &mut Vec<u8>) -> Result<(), NoMemory>
+/// Appends the header of a file as `write_capture` writes it.
+pub fn append_header(out: &mut Vec<u8>) -> Result<(), NoMemory>
     ensures { OnOk result (out.new.items ≡ out.old.items ++ header_bytes) }
 {
     put_number(out, MAGIC_NUMBER)?;
@@ -63,5 +65,20 @@ fn put_record(out: &mut Vec<u8>, frame: &Frame) -> Result<(), NoMemory>
     put_number(out, bytes.len() as u32)?;
     put_number(out, frame.whole)?;
     put_bytes(out, bytes)?;
+    Ok(())
+}
+
+/// Appends the record of a packet that was sent in that second, with 0 microseconds: all of it was
+/// captured, and its length fits into the record's four bytes.
+pub fn append_packet(out: &mut Vec<u8>, seconds: u32, packet: &[u8]) -> Result<(), NoMemory>
+    requires { length packet.now ≤ 4294967295 }
+    ensures { OnOk result (out.new.items ≡ out.old.items ++ record_bytes (sent_frame seconds packet.now)) }
+{
+    let size = packet.len() as u32;
+    put_number(out, seconds)?;
+    put_number(out, 0)?;
+    put_number(out, size)?;
+    put_number(out, size)?;
+    put_bytes(out, packet)?;
     Ok(())
 }

@@ -85,10 +85,23 @@ fn shape(alloc: Global, round: &Round) -> Result<(u64, Vec<bool>), AllocError> {
 fn packets_follow_the_script(rt: HostRuntime) -> Result<(), Fail> {
     let alloc = rt.alloc();
     let file = joined(alloc, &[&RAW, &AT_5, &SYN, &AT_5, &ANSWER])?;
-    let capture = read_capture(alloc, &file)?;
     let mut script = empty(alloc);
-    captured(alloc, SERVERS, 16, 1, &mut script, &capture)?;
-    captured(alloc, SERVERS, 16, 2, &mut script, &capture)?;
+    captured(
+        alloc,
+        SERVERS,
+        16,
+        1,
+        &mut script,
+        read_capture(alloc, &file)?,
+    )?;
+    captured(
+        alloc,
+        SERVERS,
+        16,
+        2,
+        &mut script,
+        read_capture(alloc, &file)?,
+    )?;
     let [first, second] = script.rounds.as_slice() else {
         return Err(Fail::from("two rounds"));
     };
@@ -105,7 +118,7 @@ fn frames_without_ipv4_are_skipped(rt: HostRuntime) -> Result<(), Fail> {
     let file = joined(alloc, &[&ETHERNET, &CUT_TO_15, &IPV6, &CUT_TO_15, &IPV4])?;
     let capture = read_capture(alloc, &file)?;
     let mut script = empty(alloc);
-    captured(alloc, SERVERS, 16, 86_400, &mut script, &capture)?;
+    captured(alloc, SERVERS, 16, 86_400, &mut script, capture)?;
     let [round] = script.rounds.as_slice() else {
         return Err(Fail::from("one round"));
     };
@@ -122,10 +135,10 @@ fn refused(at: u64, cause: CaptureCause) -> Result<(), CaptureRefused> {
 fn limit_of_rounds(rt: HostRuntime) -> Result<(), Fail> {
     let alloc = rt.alloc();
     let mut script = empty(alloc);
-    let many = captured(alloc, SERVERS, 16, 1, &mut script, &flood(alloc, 4_097)?);
+    let many = captured(alloc, SERVERS, 16, 1, &mut script, flood(alloc, 4_097)?);
     assert_eq!(rt; many, refused(4_097, CaptureCause::TooManyRounds));
     assert_eq!(rt; script.rounds.as_slice().len(), 0);
-    captured(alloc, SERVERS, 16, 1, &mut script, &flood(alloc, 4_096)?)?;
+    captured(alloc, SERVERS, 16, 1, &mut script, flood(alloc, 4_096)?)?;
     assert_eq!(rt; script.rounds.as_slice().len(), 4_096);
     Ok(())
 }
@@ -135,10 +148,9 @@ fn limit_of_rounds(rt: HostRuntime) -> Result<(), Fail> {
 fn limit_of_items(rt: HostRuntime) -> Result<(), Fail> {
     let alloc = rt.alloc();
     let mut script = crowded(alloc, 4_095, 15)?;
-    let capture = flood(alloc, 2)?;
-    let items = captured(alloc, SERVERS, 16, 60, &mut script, &capture);
+    let items = captured(alloc, SERVERS, 16, 60, &mut script, flood(alloc, 2)?);
     assert_eq!(rt; items, refused(2, CaptureCause::TooManyItems));
-    let both = captured(alloc, SERVERS, 16, 1, &mut script, &capture);
+    let both = captured(alloc, SERVERS, 16, 1, &mut script, flood(alloc, 2)?);
     assert_eq!(rt; both, refused(2, CaptureCause::TooManyRounds));
     assert_eq!(rt; script.rounds.as_slice().len(), 4_095);
     Ok(())

@@ -1,5 +1,5 @@
 use Rattle.std.proofs.Common.{append_assoc}
-use Rattle.lvs_pcap.proofs.writing.put_header.Goals as goal
+use Rattle.lvs_pcap.proofs.writing.append_header.Goals as goal
 
 pub returns : goal.returns
 returns c =
