@@ -1,172 +1,282 @@
--- What an answer says of the script.
-use Rattle.std.proofs.Common.{◌≡◌, ◌≢◌, ℕ, ◌+◌, ◌≤◌, ◌⊎◌, inl, inr, List, [], ◌++◌, Option, Some, None, Result, Ok, Err, length, refl, sym, ◌∙◌, ap, subst, append-nil, length-append, arith}
-use Rattle.std.specs.Io.KnownBytes.{Consumes, IsAtEnd}
+-- What an answer says of the input's task.
+use Rattle.std.proofs.Common.{◌≡◌, ◌≢◌, ℕ, ◌+◌, ◌≤◌, ◌⊎◌, inl, inr, List, [], ◌∷◌, ◌++◌, Option, Some, None, Result, Ok, Err, length, refl, sym, ◌∙◌, ap, subst, append-nil, length-append, arith}
+use Rattle.std.specs.Io.KnownBytes.{Appends, Consumes, IsAtEnd}
 use Rattle.lvs_types.specs.declared.book.RoundBook.{RoundBook}
-use Rattle.lvs_types.specs.declared.script.Script.{Script}
-use Rattle.lvs_types.specs.declared.script.Round.{Round}
-use Rattle.lvs_types.specs.declared.script.ScriptCause.{ScriptCause}
+use Rattle.lvs_types.specs.declared.program.ProgramCommand.{ProgramCommand}
+use Rattle.lvs_types.specs.declared.program.ProgramCommand.TheVariants as program
 use Rattle.lvs_types.specs.declared.status.Status.{Status}
 use Rattle.lvs_types.specs.declared.status.Status.TheVariants as status
-use Rattle.lvs_model.specs.declared.script.BadLine.{BadLine}
-use Rattle.lvs_model.specs.State.{State, initial}
-use Rattle.lvs_model.specs.Scripts.{script_of}
-use Rattle.lvs_outside.specs.Faults.{Rose}
-use Rattle.lvs_run.specs.SerialBooks.{AreSerialBooks, AreBooksOfSource, ArePlayed}
-use Rattle.lvs_run.proofs.LegalLemmas.{legal_books, serial_books}
-use Rattle.lvs_run.specs.Answers.{IsAnswer, IsEnd, IsOfSerial}
-use Rattle.lvs_run.specs.Stages.{IsBeforeScript}
+use Rattle.lvs_model.specs.Tasks.{Task, task_of, AreBooksOf, IsPlayedOut}
+use Rattle.lvs_outside.specs.Faults.{Rose, AppendsPrefix}
+use Rattle.lvs_run.specs.declared.writing.Wrote.{Wrote}
+use Rattle.lvs_run.specs.declared.writing.Wrote.TheVariants as wrote
+use Rattle.lvs_run.specs.Answers.{IsGiven, IsCarriedOut, IsCutOff, IsWrittenOf, status_of, IsAnswer, IsReady}
+use Rattle.lvs_run.specs.Stages.{IsCompleted, IsRefusal, IsUnread, IsRefusedBy}
 
--- how rounds that were played end
-pub ends : (script : Script) (books : List RoundBook) (s : Status) (rounds : List Round) → rounds ≡ script.rounds → (s ≡ status.Finished → length books ≡ length rounds) → (s ≢ status.Finished → s ≢ status.WriteFault → s ≢ status.NoMemory → ⊥) → IsEnd script books s
-ends script books status.Finished rounds are all only = all refl ∙ ap length are
-ends script books status.WriteFault rounds are all only = tt
-ends script books status.NoMemory rounds are all only = tt
-ends script books (status.ScriptRefused line why) rounds are all only = only (λ e. cc) (λ e. cc) (λ e. cc)
-ends script books (status.WordsRefused at) rounds are all only = only (λ e. cc) (λ e. cc) (λ e. cc)
-ends script books status.ReadFault rounds are all only = only (λ e. cc) (λ e. cc) (λ e. cc)
-ends script books status.ScriptTooLong rounds are all only = only (λ e. cc) (λ e. cc) (λ e. cc)
-ends script books (status.Illegal verdict) rounds are all only = only (λ e. cc) (λ e. cc) (λ e. cc)
-ends script books (status.CaptureRefused at why) rounds are all only = only (λ e. cc) (λ e. cc) (λ e. cc)
+-- STATUSES
 
-serial_at : (script : Script) (books : List RoundBook) (left : State) → ArePlayed 0 (initial script.local 1) script.rounds books left → AreSerialBooks script books
-serial_at script books left played = record {
-  legal = legal_books 0 (initial script.local 1) script.rounds books left played;
-  order = serial_books 0 (initial script.local 1) script.rounds books left played;
-}
+-- a status that comes once the input was read
+pub record IsLate (s : Status) : Type 0 where
+  pub words : (at : ℕ) → s ≢ status.WordsRefused at
+  pub read_fault : s ≢ status.ReadFault
+  pub too_long : s ≢ status.ScriptTooLong
 
--- what was played from the first state on
-pub serial_of : (script : Script) (s : State) (rounds : List Round) (books : List RoundBook) (left : State) → s ≡ initial script.local 1 → rounds ≡ script.rounds → ArePlayed 0 s rounds books left → AreSerialBooks script books
-serial_of script s rounds books left first are played =
-    let P : State → Type 0 = λ t. ArePlayed 0 t rounds books left in
-    let Q : List Round → Type 0 = λ l. ArePlayed 0 (initial script.local 1) l books left in
-    serial_at script books left (subst Q are (subst P first played))
+late_completed : (s : Status) → IsCompleted s → IsLate s
+late_completed status.Finished is = record { words = λ at e. cc; read_fault = λ e. cc; too_long = λ e. cc }
+late_completed (status.Illegal verdict) is = record { words = λ at e. cc; read_fault = λ e. cc; too_long = λ e. cc }
+late_completed (status.ScriptRefused line why) is = absurd is
+late_completed (status.WordsRefused at) is = absurd is
+late_completed status.ReadFault is = absurd is
+late_completed status.WriteFault is = absurd is
+late_completed status.NoMemory is = absurd is
+late_completed status.ScriptTooLong is = absurd is
+late_completed (status.CaptureRefused at why) is = absurd is
 
--- all rounds, where the run finished
-pub finished_of : (r : Result Script BadLine) (books : List RoundBook) → IsAnswer r status.Finished books → (script : Script) × (r ≡ Ok script) × AreSerialBooks script books × (length books ≡ length script.rounds)
-finished_of (Ok script) books answer = (script, refl, answer.1, answer.0)
-finished_of (Err bad) books answer = absurd answer.0
+late_refusal : (s : Status) → IsRefusal s → IsLate s
+late_refusal (status.ScriptRefused line why) is = record { words = λ at e. cc; read_fault = λ e. cc; too_long = λ e. cc }
+late_refusal (status.CaptureRefused at why) is = record { words = λ at e. cc; read_fault = λ e. cc; too_long = λ e. cc }
+late_refusal status.Finished is = absurd is
+late_refusal (status.Illegal verdict) is = absurd is
+late_refusal (status.WordsRefused at) is = absurd is
+late_refusal status.ReadFault is = absurd is
+late_refusal status.WriteFault is = absurd is
+late_refusal status.NoMemory is = absurd is
+late_refusal status.ScriptTooLong is = absurd is
 
--- the first rounds, where there are any
-pub first_of_script : (r : Result Script BadLine) (s : Status) (books : List RoundBook) → IsAnswer r s books → books ≢ [] → (script : Script) × (r ≡ Ok script) × AreSerialBooks script books
-first_of_script (Ok script) s books answer some = (script, refl, answer.1)
-first_of_script (Err bad) s books answer some = absurd (some answer.1)
+late_memory : IsLate status.NoMemory
+late_memory = record { words = λ at e. cc; read_fault = λ e. cc; too_long = λ e. cc }
 
-bad_is : (bad : BadLine) (line : ℕ) (why : ScriptCause) → line ≡ bad.line → why ≡ bad.cause → bad ≡ record { line = line; cause = why }
-bad_is bad line why l c = ap (λ (n : ℕ). record bad { line = n }) (sym l) ∙ ap (λ (w : ScriptCause). record bad { line = line; cause = w }) (sym c)
+late_fault : IsLate status.WriteFault
+late_fault = record { words = λ at e. cc; read_fault = λ e. cc; too_long = λ e. cc }
 
--- the first refused line
-pub refused_of : (r : Result Script BadLine) (line : ℕ) (why : ScriptCause) (books : List RoundBook) → IsAnswer r (status.ScriptRefused line why) books → r ≡ Err (record { line = line; cause = why })
-refused_of (Ok script) line why books answer = absurd answer.0
-refused_of (Err bad) line why books answer = ap (λ (b : BadLine). Err b) (bad_is bad line why answer.0.0 answer.0.1)
+late_along : (s t : Status) → s ≡ t → IsLate t → IsLate s
+late_along s t same late = subst IsLate (sym same) late
 
--- an accepted script ends in one of three ways
-pub accepted_ends : (script : Script) (s : Status) (books : List RoundBook) → IsAnswer (Ok script) s books → s ≢ status.WriteFault → (s ≡ status.Finished) ⊎ (s ≡ status.NoMemory)
-accepted_ends script status.Finished books answer other = inl refl
-accepted_ends script status.NoMemory books answer other = inr refl
-accepted_ends script status.WriteFault books answer other = absurd (other refl)
-accepted_ends script (status.ScriptRefused line why) books answer other = absurd answer.0
-accepted_ends script (status.WordsRefused at) books answer other = absurd answer.0
-accepted_ends script status.ReadFault books answer other = absurd answer.0
-accepted_ends script status.ScriptTooLong books answer other = absurd answer.0
-accepted_ends script (status.Illegal verdict) books answer other = absurd answer.0
-accepted_ends script (status.CaptureRefused at why) books answer other = absurd answer.0
+late_one : (s refused : Status) → IsRefusal refused → (s ≡ refused) ⊎ (s ≡ status.NoMemory) → IsLate s
+late_one s refused is (inl same) = late_along s refused same (late_refusal refused is)
+late_one s refused is (inr same) = late_along s status.NoMemory same late_memory
 
--- a refused script ends in one of two
-pub refused_ends : (bad : BadLine) (s : Status) (books : List RoundBook) → IsAnswer (Err bad) s books → (s ≡ status.ScriptRefused bad.line bad.cause) ⊎ (s ≡ status.NoMemory)
-refused_ends bad status.NoMemory books answer = inr refl
-refused_ends bad (status.ScriptRefused line why) books answer = inl (ap (λ (n : ℕ). status.ScriptRefused n why) answer.0.0 ∙ ap (λ (w : ScriptCause). status.ScriptRefused bad.line w) answer.0.1)
-refused_ends bad status.Finished books answer = absurd answer.0
-refused_ends bad status.WriteFault books answer = absurd answer.0
-refused_ends bad (status.WordsRefused at) books answer = absurd answer.0
-refused_ends bad status.ReadFault books answer = absurd answer.0
-refused_ends bad status.ScriptTooLong books answer = absurd answer.0
-refused_ends bad (status.Illegal verdict) books answer = absurd answer.0
-refused_ends bad (status.CaptureRefused at why) books answer = absurd answer.0
+late_wrote : (s end : Status) (w : Wrote) → IsCompleted end → s ≡ status_of end w → IsLate s
+late_wrote s end wrote.All is same = late_along s end same (late_completed end is)
+late_wrote s end wrote.Prefix is same = late_along s status.WriteFault same late_fault
+late_wrote s end wrote.NoMemory is same = late_along s status.NoMemory same late_memory
 
--- want of memory, before there is a book
-pub no_memory_at_first : (r : Result Script BadLine) → IsAnswer r status.NoMemory []
-no_memory_at_first (Ok script) = (tt, record { legal = tt; order = tt })
-no_memory_at_first (Err bad) = (tt, refl)
+pub late : (command : ProgramCommand) (r : Result Task Status) (old new : Option (List ℕ)) (s : Status) (books : List RoundBook) → IsAnswer command r old new s books → IsLate s
+late command (Err refused) old new s books answer = late_one s refused answer.0 answer.1
+late command (Ok task) old new s books answer = late_wrote s task.end answer.0 answer.2 answer.1
+
+-- a completed call isn't one that stopped
+completed_fault : (s : Status) → IsCompleted s → s ≡ status.WriteFault → ⊥
+completed_fault s is same = subst IsCompleted same is
+
+completed_memory : (s : Status) → IsCompleted s → s ≡ status.NoMemory → ⊥
+completed_memory s is same = subst IsCompleted same is
+
+-- a refusal is neither completed, nor did the call stop
+refusal_completed : (s : Status) → IsRefusal s → IsCompleted s → ⊥
+refusal_completed (status.ScriptRefused line why) is done = done
+refusal_completed (status.CaptureRefused at why) is done = done
+refusal_completed status.Finished is done = is
+refusal_completed (status.Illegal verdict) is done = is
+refusal_completed (status.WordsRefused at) is done = is
+refusal_completed status.ReadFault is done = is
+refusal_completed status.WriteFault is done = is
+refusal_completed status.NoMemory is done = is
+refusal_completed status.ScriptTooLong is done = is
+
+-- COMPLETED
+
+abbrev Completed : Result Task Status → Option (List ℕ) → Option (List ℕ) → Status → List RoundBook → Type 0
+Completed r old new s books = (task : Task) × (r ≡ Ok task) × IsCarriedOut task old new s books
+
+refused_completed : (r : Result Task Status) (old new : Option (List ℕ)) (s refused : Status) (books : List RoundBook) → IsRefusal refused → (s ≡ refused) ⊎ (s ≡ status.NoMemory) → IsCompleted s → Completed r old new s books
+refused_completed r old new s refused books is (inl same) done = absurd (refusal_completed refused is (subst IsCompleted same done))
+refused_completed r old new s refused books is (inr same) done = absurd (completed_memory s done same)
+
+wrote_completed : (command : ProgramCommand) (task : Task) (old new : Option (List ℕ)) (s : Status) (books : List RoundBook) (w : Wrote) → s ≡ status_of task.end w → AreBooksOf task books → IsWrittenOf command task old new books w → IsCompleted s → Completed (Ok task) old new s books
+wrote_completed command task old new s books wrote.All same are written done = (task, refl, record { end = same; books_are = are; all = written.0; text = written.1 })
+wrote_completed command task old new s books wrote.Prefix same are written done = absurd (completed_fault s done same)
+wrote_completed command task old new s books wrote.NoMemory same are written done = absurd (completed_memory s done same)
+
+pub completed_of : (command : ProgramCommand) (r : Result Task Status) (old new : Option (List ℕ)) (s : Status) (books : List RoundBook) → IsAnswer command r old new s books → IsCompleted s → Completed r old new s books
+completed_of command (Err refused) old new s books answer done = refused_completed (Err refused) old new s refused books answer.0 answer.1 done
+completed_of command (Ok task) old new s books answer done = wrote_completed command task old new s books answer.0 answer.1 answer.3 answer.4 done
+
+-- ROUNDS
+
+pub first_of : (command : ProgramCommand) (r : Result Task Status) (old new : Option (List ℕ)) (s : Status) (books : List RoundBook) → IsAnswer command r old new s books → books ≢ [] → (task : Task) × (r ≡ Ok task) × AreBooksOf task books
+first_of command (Err refused) old new s books answer some = absurd (some answer.3)
+first_of command (Ok task) old new s books answer some = (task, refl, answer.3)
+
+-- REFUSALS
+
+memory_no_refusal : (s : Status) → s ≡ status.NoMemory → IsRefusal s → ⊥
+memory_no_refusal s same is = subst IsRefusal same is
+
+refused_is : (s refused : Status) → (s ≡ refused) ⊎ (s ≡ status.NoMemory) → IsRefusal s → ◌≡◌ {A = Result Task Status} (Err refused) (Err s)
+refused_is s refused (inl same) is = ap (λ (t : Status). Err t) (sym same)
+refused_is s refused (inr same) is = absurd (memory_no_refusal s same is)
+
+wrote_refusal : (s end : Status) (w : Wrote) → IsCompleted end → s ≡ status_of end w → IsRefusal s → ⊥
+wrote_refusal s end wrote.All done same is = refusal_completed end (subst IsRefusal same is) done
+wrote_refusal s end wrote.Prefix done same is = subst IsRefusal same is
+wrote_refusal s end wrote.NoMemory done same is = subst IsRefusal same is
+
+pub refusal_of : (command : ProgramCommand) (r : Result Task Status) (old new : Option (List ℕ)) (s : Status) (books : List RoundBook) → IsAnswer command r old new s books → IsRefusal s → r ≡ Err s
+refusal_of command (Err refused) old new s books answer is = refused_is s refused answer.1 is
+refusal_of command (Ok task) old new s books answer is = absurd (wrote_refusal s task.end answer.0 answer.2 answer.1 is)
+
+-- AN ACCEPTED INPUT, AND A REFUSED ONE
+
+wrote_ends : (s end : Status) (w : Wrote) → s ≡ status_of end w → s ≢ status.WriteFault → (s ≡ end) ⊎ (s ≡ status.NoMemory)
+wrote_ends s end wrote.All same calm = inl same
+wrote_ends s end wrote.Prefix same calm = absurd (calm same)
+wrote_ends s end wrote.NoMemory same calm = inr same
+
+accepted_ends : (command : ProgramCommand) (task : Task) (old new : Option (List ℕ)) (s : Status) (books : List RoundBook) → IsAnswer command (Ok task) old new s books → s ≢ status.WriteFault → (s ≡ task.end) ⊎ (s ≡ status.NoMemory)
+accepted_ends command task old new s books answer calm = wrote_ends s task.end answer.0 answer.1 calm
+
+refused_ends : (command : ProgramCommand) (refused : Status) (old new : Option (List ℕ)) (s : Status) (books : List RoundBook) → IsAnswer command (Err refused) old new s books → (s ≡ refused) ⊎ (s ≡ status.NoMemory)
+refused_ends command refused old new s books answer = answer.1
+
+-- A CALL THAT STOPPED
+
+one_stops : (s refused : Status) → IsRefusal refused → (s ≡ refused) ⊎ (s ≡ status.NoMemory) → s ≡ status.WriteFault → ⊥
+one_stops s refused is (inl same) fault = subst IsRefusal (sym same ∙ fault) is
+one_stops s refused is (inr same) fault = let both : status.NoMemory ≡ status.WriteFault = sym same ∙ fault in cc
+
+wrote_cut : (command : ProgramCommand) (task : Task) (old new : Option (List ℕ)) (s : Status) (books : List RoundBook) (w : Wrote) → s ≡ status_of task.end w → IsCompleted task.end → IsWrittenOf command task old new books w → s ≡ status.WriteFault → IsCutOff command task old new books
+wrote_cut command task old new s books wrote.All same done written fault = absurd (completed_fault task.end done (sym same ∙ fault))
+wrote_cut command task old new s books wrote.Prefix same done written fault = written
+wrote_cut command task old new s books wrote.NoMemory same done written fault = let both : status.NoMemory ≡ status.WriteFault = sym same ∙ fault in cc
+
+pub cut_of : (command : ProgramCommand) (r : Result Task Status) (old new : Option (List ℕ)) (s : Status) (books : List RoundBook) → IsAnswer command r old new s books → s ≡ status.WriteFault → (task : Task) × (r ≡ Ok task) × IsCutOff command task old new books
+cut_of command (Err refused) old new s books answer fault = absurd (one_stops s refused answer.0 answer.1 fault)
+cut_of command (Ok task) old new s books answer fault = (task, refl, wrote_cut command task old new s books answer.0 answer.1 answer.2 answer.4 fault)
+
+abbrev pub Memory : Result Task Status → Option (List ℕ) → Option (List ℕ) → List RoundBook → Type 0
+Memory r old new books = ((new ≡ old) × (books ≡ [])) ⊎ ((task : Task) × (r ≡ Ok task) × AppendsPrefix old new (task.text books))
+
+wrote_memory : (command : ProgramCommand) (task : Task) (old new : Option (List ℕ)) (s : Status) (books : List RoundBook) (w : Wrote) → s ≡ status_of task.end w → IsCompleted task.end → IsWrittenOf command task old new books w → s ≡ status.NoMemory → Memory (Ok task) old new books
+wrote_memory command task old new s books wrote.All same done written memory = absurd (completed_memory task.end done (sym same ∙ memory))
+wrote_memory command task old new s books wrote.Prefix same done written memory = let both : status.WriteFault ≡ status.NoMemory = sym same ∙ memory in cc
+wrote_memory command task old new s books wrote.NoMemory same done written memory = inr (task, refl, written)
+
+pub memory_of : (command : ProgramCommand) (r : Result Task Status) (old new : Option (List ℕ)) (s : Status) (books : List RoundBook) → IsAnswer command r old new s books → s ≡ status.NoMemory → Memory r old new books
+memory_of command (Err refused) old new s books answer memory = inl (answer.2, answer.3)
+memory_of command (Ok task) old new s books answer memory = wrote_memory command task old new s books answer.0 answer.1 answer.2 answer.4 memory
+
+-- the same, with what was given
+pub given_memory : (words : List (List ℕ)) (left_before left : Option (List ℕ)) (command : ProgramCommand) (input : List ℕ) (old new : Option (List ℕ)) (books : List RoundBook) → IsGiven words left_before left command input → Memory (task_of command input) old new books → ((new ≡ old) × (books ≡ [])) ⊎ ((c : ProgramCommand) × (i : List ℕ) × (task : Task) × IsGiven words left_before left c i × (task_of c i ≡ Ok task) × AppendsPrefix old new (task.text books))
+given_memory words left_before left command input old new books given (inl nothing) = inl nothing
+given_memory words left_before left command input old new books given (inr some) = inr (command, input, some.0, given, some.1, some.2)
+
+wrote_stopped : (s end : Status) (w : Wrote) → IsCompleted end → s ≡ status_of end w → (IsCompleted s → ⊥) → s ≢ status.WriteFault → s ≢ status.NoMemory → ⊥
+wrote_stopped s end wrote.All done same other calm room = other (subst IsCompleted (sym same) done)
+wrote_stopped s end wrote.Prefix done same other calm room = calm same
+wrote_stopped s end wrote.NoMemory done same other calm room = room same
+
+pub nothing_of : (command : ProgramCommand) (r : Result Task Status) (old new : Option (List ℕ)) (s : Status) (books : List RoundBook) → IsAnswer command r old new s books → (IsCompleted s → ⊥) → s ≢ status.WriteFault → s ≢ status.NoMemory → (new ≡ old) × (books ≡ [])
+nothing_of command (Err refused) old new s books answer other calm room = (answer.2, answer.3)
+nothing_of command (Ok task) old new s books answer other calm room = absurd (wrote_stopped s task.end answer.0 answer.2 answer.1 other calm room)
+
+-- BEFORE A TASK
+
+-- a refused input, or want of memory, before anything was played
+no_memory_at_first : (command : ProgramCommand) (r : Result Task Status) (old new : Option (List ℕ)) (books : List RoundBook) → IsReady r → ((task : Task) → IsWrittenOf command task old new [] wrote.NoMemory) → new ≡ old → books ≡ [] → IsAnswer command r old new status.NoMemory books
+no_memory_at_first command (Err refused) old new books ready none same empty = (ready, inr refl, same, empty)
+no_memory_at_first command (Ok task) old new books ready none same empty =
+    (wrote.NoMemory, refl, ready.0, subst (λ (l : List RoundBook). AreBooksOf task l) (sym empty) ready.1, subst (λ (l : List RoundBook). IsWrittenOf command task old new l wrote.NoMemory) (sym empty) (none task))
+
+found_refused : (command : ProgramCommand) (r : Result Task Status) (old new : Option (List ℕ)) (refused : Status) (books : List RoundBook) → r ≡ Err refused → IsRefusal refused → new ≡ old → books ≡ [] → IsAnswer command r old new refused books
+found_refused command r old new refused books found is same empty =
+    subst (λ (x : Result Task Status). IsAnswer command x old new refused books) (sym found) (is, inl refl, same, empty)
+
+pub refused_answer : (command : ProgramCommand) (r : Result Task Status) (old new : Option (List ℕ)) (s : Status) (books : List RoundBook) → IsRefusedBy r s → IsReady r → ((task : Task) → IsWrittenOf command task old new [] wrote.NoMemory) → new ≡ old → books ≡ [] → IsAnswer command r old new s books
+refused_answer command r old new status.NoMemory books found ready none same empty = no_memory_at_first command r old new books ready none same empty
+refused_answer command r old new (status.ScriptRefused line why) books found ready none same empty = found_refused command r old new (status.ScriptRefused line why) books found tt same empty
+refused_answer command r old new (status.CaptureRefused at why) books found ready none same empty = found_refused command r old new (status.CaptureRefused at why) books found tt same empty
+refused_answer command r old new status.Finished books found ready none same empty = absurd found
+refused_answer command r old new (status.Illegal verdict) books found ready none same empty = absurd found
+refused_answer command r old new (status.WordsRefused at) books found ready none same empty = absurd found
+refused_answer command r old new status.ReadFault books found ready none same empty = absurd found
+refused_answer command r old new status.WriteFault books found ready none same empty = absurd found
+refused_answer command r old new status.ScriptTooLong books found ready none same empty = absurd found
+
+-- THE BYTES OF THE SOURCE
 
 -- a source that tells its bytes and is at its end has given all of them
-pub all_read : (left : Option (List ℕ)) (bytes given : List ℕ) → Consumes (Some bytes) left given → IsAtEnd left → given ≡ bytes
+all_read : (left : Option (List ℕ)) (bytes given : List ℕ) → Consumes (Some bytes) left given → IsAtEnd left → given ≡ bytes
 all_read None bytes given took end = absurd took
 all_read (Some rest) bytes given took end = sym (took ∙ ap (λ (l : List ℕ). given ++ l) end ∙ append-nil given)
 
 -- no more than all are read
-pub not_longer : (left : Option (List ℕ)) (bytes given : List ℕ) → Consumes (Some bytes) left given → length given ≤ length bytes
+not_longer : (left : Option (List ℕ)) (bytes given : List ℕ) → Consumes (Some bytes) left given → length given ≤ length bytes
 not_longer None bytes given took = absurd took
 not_longer (Some rest) bytes given took = omega (arith, ap length took, length-append given rest)
 
--- what the whole input answers, where the source told its bytes
-answer_at : (old new : Option (List ℕ)) (given bytes : List ℕ) (s : Status) (books : List RoundBook) → Consumes old new given → IsAtEnd new → IsAnswer (script_of given) s books → old ≡ Some bytes → IsAnswer (script_of bytes) s books
-answer_at old new given bytes s books took end answer told =
+given_all : (old new : Option (List ℕ)) (given bytes : List ℕ) → Consumes old new given → IsAtEnd new → old ≡ Some bytes → given ≡ bytes
+given_all old new given bytes took end told =
     let P : Option (List ℕ) → Type 0 = λ o. Consumes o new given in
-    let Q : List ℕ → Type 0 = λ b. IsAnswer (script_of b) s books in
-    subst Q (all_read new bytes given (subst P told took) end) answer
+    all_read new bytes given (subst P told took) end
 
-pub complete_after : (old new : Option (List ℕ)) (given bytes : List ℕ) (script : Script) (s : Status) (books : List RoundBook) → Consumes old new given → IsAtEnd new → IsAnswer (script_of given) s books → old ≡ Some bytes → script_of bytes ≡ Ok script → s ≢ status.WriteFault → (s ≡ status.Finished) ⊎ (s ≡ status.NoMemory)
-complete_after old new given bytes script s books took end answer told accepted other =
-    let Q : Result Script BadLine → Type 0 = λ r. IsAnswer r s books in
-    accepted_ends script s books (subst Q accepted (answer_at old new given bytes s books took end answer told)) other
+command_is : (words : Result ProgramCommand ℕ) (command given : ProgramCommand) → words ≡ Ok given → words ≡ Ok command → given ≡ command
+command_is words command given one two = let both : ◌≡◌ {A = Result ProgramCommand ℕ} (Ok given) (Ok command) = sym one ∙ two in cc
 
-pub refused_after : (old new : Option (List ℕ)) (given bytes : List ℕ) (bad : BadLine) (s : Status) (books : List RoundBook) → Consumes old new given → IsAtEnd new → IsAnswer (script_of given) s books → old ≡ Some bytes → script_of bytes ≡ Err bad → (s ≡ status.ScriptRefused bad.line bad.cause) ⊎ (s ≡ status.NoMemory)
-refused_after old new given bytes bad s books took end answer told refused =
-    let Q : Result Script BadLine → Type 0 = λ r. IsAnswer r s books in
-    refused_ends bad s books (subst Q refused (answer_at old new given bytes s books took end answer told))
+-- the answer for the command that the words ask for and the bytes that the source told
+answer_told : (old new written_old written_new : Option (List ℕ)) (given command : ProgramCommand) (input bytes : List ℕ) (r : Result Task Status) (s : Status) (books : List RoundBook) → given ≡ command → input ≡ bytes → task_of command bytes ≡ r → IsAnswer given (task_of given input) written_old written_new s books → IsAnswer command r written_old written_new s books
+answer_told old new written_old written_new given command input bytes r s books same all is answer =
+    let P : ProgramCommand → Type 0 = λ c. IsAnswer c (task_of c input) written_old written_new s books in
+    let Q : List ℕ → Type 0 = λ b. IsAnswer command (task_of command b) written_old written_new s books in
+    let R : Result Task Status → Type 0 = λ x. IsAnswer command x written_old written_new s books in
+    subst R is (subst Q all (subst P same answer))
 
--- before the script is read, with good words, a short input and no fault, there is no other status
-pub before_is_memory : (limit : ℕ) (s : Status) (old new : Option (List ℕ)) (bytes : List ℕ) (word : Option ℕ) (before now : ℕ) → IsBeforeScript s → ((at : ℕ) → s ≡ status.WordsRefused at → word ≡ Some at) → (s ≡ status.ReadFault → Rose before now) → (s ≡ status.ScriptTooLong → (given : List ℕ) × (length given ≡ limit + 1) × Consumes old new given) → word ≡ None → old ≡ Some bytes → length bytes ≤ limit → (Rose before now → ⊥) → s ≡ status.NoMemory
-before_is_memory limit status.NoMemory old new bytes word before now is words fault long good told short calm = refl
-before_is_memory limit (status.WordsRefused at) old new bytes word before now is words fault long good told short calm = let bad : word ≡ Some at = words at refl in cc
-before_is_memory limit status.ReadFault old new bytes word before now is words fault long good told short calm = absurd (calm (fault refl))
-before_is_memory limit status.ScriptTooLong old new bytes word before now is words fault long good told short calm =
-    let P : Option (List ℕ) → Type 0 = λ o. Consumes o new (long refl).0 in
-    let most = not_longer new bytes (long refl).0 (subst P told (long refl).2) in
-    absurd (omega (arith, most, (long refl).1, short))
-before_is_memory limit status.Finished old new bytes word before now is words fault long good told short calm = absurd is
-before_is_memory limit status.WriteFault old new bytes word before now is words fault long good told short calm = absurd is
-before_is_memory limit (status.ScriptRefused line why) old new bytes word before now is words fault long good told short calm = absurd is
-before_is_memory limit (status.Illegal verdict) old new bytes word before now is words fault long good told short calm = absurd is
-before_is_memory limit (status.CaptureRefused at why) old new bytes word before now is words fault long good told short calm = absurd is
+pub complete_after : (old new written_old written_new : Option (List ℕ)) (words : Result ProgramCommand ℕ) (given command : ProgramCommand) (input bytes : List ℕ) (task : Task) (s : Status) (books : List RoundBook) → words ≡ Ok given → words ≡ Ok command → Consumes old new input → IsAtEnd new → old ≡ Some bytes → task_of command bytes ≡ Ok task → IsAnswer given (task_of given input) written_old written_new s books → s ≢ status.WriteFault → (s ≡ task.end) ⊎ (s ≡ status.NoMemory)
+complete_after old new written_old written_new words given command input bytes task s books one two took end told is answer calm =
+    accepted_ends command task written_old written_new s books (answer_told old new written_old written_new given command input bytes (Ok task) s books (command_is words command given one two) (given_all old new input bytes took end told) is answer) calm
 
-pub of_serial_after : (r : Result Script BadLine) (s : Status) (books : List RoundBook) → IsAnswer r s books → IsOfSerial s
-of_serial_after r status.NoMemory books answer = tt
-of_serial_after r (status.WordsRefused at) books answer = tt
-of_serial_after r status.ReadFault books answer = tt
-of_serial_after r status.ScriptTooLong books answer = tt
-of_serial_after r status.Finished books answer = tt
-of_serial_after r status.WriteFault books answer = tt
-of_serial_after r (status.ScriptRefused line why) books answer = tt
-of_serial_after (Ok script) (status.Illegal verdict) books answer = absurd answer.0
-of_serial_after (Err bad) (status.Illegal verdict) books answer = absurd answer.0
-of_serial_after (Ok script) (status.CaptureRefused at why) books answer = absurd answer.0
-of_serial_after (Err bad) (status.CaptureRefused at why) books answer = absurd answer.0
+pub refused_after : (old new written_old written_new : Option (List ℕ)) (words : Result ProgramCommand ℕ) (given command : ProgramCommand) (input bytes : List ℕ) (refused : Status) (s : Status) (books : List RoundBook) → words ≡ Ok given → words ≡ Ok command → Consumes old new input → IsAtEnd new → old ≡ Some bytes → task_of command bytes ≡ Err refused → IsAnswer given (task_of given input) written_old written_new s books → (s ≡ refused) ⊎ (s ≡ status.NoMemory)
+refused_after old new written_old written_new words given command input bytes refused s books one two took end told is answer =
+    refused_ends command refused written_old written_new s books (answer_told old new written_old written_new given command input bytes (Err refused) s books (command_is words command given one two) (given_all old new input bytes took end told) is answer)
 
-pub of_serial_before : (s : Status) → IsBeforeScript s → IsOfSerial s
-of_serial_before status.NoMemory is = tt
-of_serial_before (status.WordsRefused at) is = tt
-of_serial_before status.ReadFault is = tt
-of_serial_before status.ScriptTooLong is = tt
-of_serial_before status.Finished is = tt
-of_serial_before status.WriteFault is = tt
-of_serial_before (status.ScriptRefused line why) is = tt
-of_serial_before (status.Illegal verdict) is = absurd is
-of_serial_before (status.CaptureRefused at why) is = absurd is
+too_much : (limit : ℕ) (old new : Option (List ℕ)) (bytes given : List ℕ) → length given ≡ limit + 1 → Consumes old new given → old ≡ Some bytes → length bytes ≤ limit → ⊥
+too_much limit old new bytes given size took told short =
+    let P : Option (List ℕ) → Type 0 = λ o. Consumes o new given in
+    let less : length given ≤ length bytes = not_longer new bytes given (subst P told took) in
+    omega (arith, size, less, short)
 
--- the books of a source, from its answer
-pub headline_of : (old new : Option (List ℕ)) (given : List ℕ) (s : Status) (books : List RoundBook) → Consumes old new given → IsAtEnd new → IsAnswer (script_of given) s books → s ≡ status.Finished → (script : Script) × AreBooksOfSource old new given script books × (length books ≡ length script.rounds)
-headline_of old new given s books took end answer finished =
-    let P : Status → Type 0 = λ t. IsAnswer (script_of given) t books in
-    let all = finished_of (script_of given) books (subst P finished answer) in
-    (all.0, record { read = took; end = end; spells = all.1; serial = all.2 }, all.3)
+-- with a short input and no fault, the input is left unread for want of memory alone
+pub unread_is_memory : (limit : ℕ) (s : Status) (old new : Option (List ℕ)) (bytes : List ℕ) (before now : ℕ) → IsUnread s → (s ≡ status.ReadFault → Rose before now) → (s ≡ status.ScriptTooLong → (given : List ℕ) × (length given ≡ limit + 1) × Consumes old new given) → old ≡ Some bytes → length bytes ≤ limit → (Rose before now → ⊥) → s ≡ status.NoMemory
+unread_is_memory limit status.NoMemory old new bytes before now is fault long told short calm = refl
+unread_is_memory limit status.ReadFault old new bytes before now is fault long told short calm = absurd (calm (fault refl))
+unread_is_memory limit status.ScriptTooLong old new bytes before now is fault long told short calm =
+    let given = long refl in absurd (too_much limit old new bytes given.0 given.1 given.2 told short)
+unread_is_memory limit status.Finished old new bytes before now is fault long told short calm = absurd is
+unread_is_memory limit status.WriteFault old new bytes before now is fault long told short calm = absurd is
+unread_is_memory limit (status.ScriptRefused line why) old new bytes before now is fault long told short calm = absurd is
+unread_is_memory limit (status.WordsRefused at) old new bytes before now is fault long told short calm = absurd is
+unread_is_memory limit (status.Illegal verdict) old new bytes before now is fault long told short calm = absurd is
+unread_is_memory limit (status.CaptureRefused at why) old new bytes before now is fault long told short calm = absurd is
 
-pub first_of : (old new : Option (List ℕ)) (given : List ℕ) (s : Status) (books : List RoundBook) → Consumes old new given → IsAtEnd new → IsAnswer (script_of given) s books → books ≢ [] → (script : Script) × AreBooksOfSource old new given script books
-first_of old new given s books took end answer some =
-    let all = first_of_script (script_of given) s books answer some in
-    (all.0, record { read = took; end = end; spells = all.1; serial = all.2 })
+-- an unread input is neither completed, refused, nor stopped in writing
+pub unread_completed : (s : Status) → IsUnread s → IsCompleted s → ⊥
+unread_completed status.NoMemory is done = done
+unread_completed status.ReadFault is done = done
+unread_completed status.ScriptTooLong is done = done
+unread_completed status.Finished is done = is
+unread_completed status.WriteFault is done = is
+unread_completed (status.ScriptRefused line why) is done = is
+unread_completed (status.WordsRefused at) is done = is
+unread_completed (status.Illegal verdict) is done = is
+unread_completed (status.CaptureRefused at why) is done = is
 
-pub refused_line : (given : List ℕ) (s : Status) (books : List RoundBook) (line : ℕ) (why : ScriptCause) → IsAnswer (script_of given) s books → s ≡ status.ScriptRefused line why → script_of given ≡ Err (record { line = line; cause = why })
-refused_line given s books line why answer is =
-    let P : Status → Type 0 = λ t. IsAnswer (script_of given) t books in
-    refused_of (script_of given) line why books (subst P is answer)
+pub unread_refusal : (s : Status) → IsUnread s → IsRefusal s → ⊥
+unread_refusal status.NoMemory is refused = refused
+unread_refusal status.ReadFault is refused = refused
+unread_refusal status.ScriptTooLong is refused = refused
+unread_refusal status.Finished is refused = is
+unread_refusal status.WriteFault is refused = is
+unread_refusal (status.ScriptRefused line why) is refused = is
+unread_refusal (status.WordsRefused at) is refused = is
+unread_refusal (status.Illegal verdict) is refused = is
+unread_refusal (status.CaptureRefused at why) is refused = is

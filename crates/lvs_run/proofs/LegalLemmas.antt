@@ -1,15 +1,17 @@
 -- A book of `serial` is legal.
-use Rattle.std.proofs.Common.{◌≡◌, ℕ, zero, suc, ◌+◌, List, [], ◌∷◌, Some, None, length, map, refl, sym, ◌∙◌, subst, arith}
+use Rattle.std.proofs.Common.{◌≡◌, ℕ, zero, suc, ◌+◌, ◌≤◌, List, [], ◌∷◌, Some, None, length, take, drop, map, refl, sym, ◌∙◌, ap, subst, arith}
 use Rattle.std.specs.List.{slice_get}
 use Rattle.lvs_types.specs.declared.item.Item.{Item}
 use Rattle.lvs_types.specs.declared.book.Noted.{Noted}
 use Rattle.lvs_types.specs.declared.book.RoundBook.{RoundBook}
 use Rattle.lvs_types.specs.declared.script.Round.{Round}
-use Rattle.lvs_model.specs.State.{State}
+use Rattle.lvs_types.specs.declared.script.Script.{Script}
+use Rattle.lvs_model.specs.State.{State, initial}
 use Rattle.lvs_model.specs.Plans.{plan, serial_order, serial_items, items_of_actor, items_of_lines}
 use Rattle.lvs_model.specs.Books.{at_moment, acts_of, placed_of}
 use Rattle.lvs_model.specs.Legal.{IsLegal, AreLegalBooks}
-use Rattle.lvs_run.specs.SerialBooks.{IsPlayed, ArePlayed, AreSerial}
+use Rattle.lvs_model.specs.Tasks.{AreSerial, AreBooksOfRun, AreBooksOfRuns, serial_run}
+use Rattle.lvs_run.specs.SerialBooks.{IsPlayed, ArePlayed}
 use Rattle.lvs_run.proofs.Numbered.{AreAllFrom, numbered}
 use Rattle.lvs_run.proofs.Orders.{order_of_clock, order_of_control, order_of_sync, order_of_worker, order_of_none, items_of_only_worker}
 
@@ -69,3 +71,41 @@ serial_books number s rounds [] left played = tt
 serial_books number s [] (book ∷ books) left played = played
 serial_books number s (round ∷ rounds) (book ∷ books) left played =
     (played.1.order, serial_books (number + 1) played.0 rounds books left played.2)
+
+-- no more books than rounds
+few_books : (number : ℕ) (s : State) (rounds : List Round) (books : List RoundBook) (left : State) → ArePlayed number s rounds books left → length books ≤ length rounds
+few_books number s rounds [] left played = omega arith
+few_books number s [] (book ∷ books) left played = absurd played
+few_books number s (round ∷ rounds) (book ∷ books) left played = omega (arith, few_books (number + 1) played.0 rounds books left played.2)
+
+take_all : (books : List RoundBook) (n : ℕ) → length books ≤ n → take n books ≡ books
+take_all [] zero few = refl
+take_all [] (suc n) few = refl
+take_all (book ∷ books) zero few = absurd (omega arith)
+take_all (book ∷ books) (suc n) few = ap (λ (l : List RoundBook). book ∷ l) (take_all books n (omega arith))
+
+drop_all_of : (books : List RoundBook) (n : ℕ) → length books ≤ n → drop n books ≡ []
+drop_all_of [] zero few = refl
+drop_all_of [] (suc n) few = refl
+drop_all_of (book ∷ books) zero few = absurd (omega arith)
+drop_all_of (book ∷ books) (suc n) few = drop_all_of books n (omega arith)
+
+played_run : (script : Script) (books : List RoundBook) (left : State) → ArePlayed 0 (initial script.local 1) script.rounds books left → AreBooksOfRuns (serial_run script ∷ []) books
+played_run script books left played =
+    let few : length books ≤ length script.rounds = few_books 0 (initial script.local 1) script.rounds books left played in
+    let run : AreBooksOfRun (serial_run script) books = record {
+      legal = legal_books 0 (initial script.local 1) script.rounds books left played;
+      order = serial_books 0 (initial script.local 1) script.rounds books left played;
+    } in
+    (subst (λ (l : List RoundBook). AreBooksOfRun (serial_run script) l) (sym (take_all books (length script.rounds) few)) run, drop_all_of books (length script.rounds) few)
+
+-- what was played from the first state on
+pub books_of_run : (script : Script) (s : State) (rounds : List Round) (books : List RoundBook) (left : State) → s ≡ initial script.local 1 → rounds ≡ script.rounds → ArePlayed 0 s rounds books left → AreBooksOfRuns (serial_run script ∷ []) books
+books_of_run script s rounds books left first are played =
+    let P : State → Type 0 = λ t. ArePlayed 0 t rounds books left in
+    let Q : List Round → Type 0 = λ l. ArePlayed 0 (initial script.local 1) l books left in
+    played_run script books left (subst Q are (subst P first played))
+
+-- before the first round
+pub no_books_of_run : (script : Script) → AreBooksOfRuns (serial_run script ∷ []) []
+no_books_of_run script = played_run script [] (initial script.local 1) refl

@@ -9,3 +9,6 @@ pub mod Within
 pub mod Items
 pub mod Unlisted
 pub mod AnswerLemmas
+pub mod PartLemmas
+pub mod SentLemmas
+pub mod TaskLemmas

@@ -1,9 +1,23 @@
--- The words of the command line, the program's name left out (this project's profile).
-use Rattle.std.specs.Prelude.{ℕ, List, [], ◌∷◌, Option, Some, None, if◌then◌else◌, codes, nat_eq}
-use Rattle.std.specs.Cmp.Lexicographic.{pointwise}
+-- The words of the command line that the program acts on so far, its own name left out (this project's profile).
+use Rattle.std.specs.Prelude.{ℕ, List, [], ◌∷◌, Result, Ok, Err, ◌≤◌, ◌<◌, if◌then◌else◌, codes, bytes_eq}
+use Rattle.lvs_types.specs.declared.program.ProgramCommand.{ProgramCommand}
+use Rattle.lvs_types.specs.declared.program.ProgramCommand.TheVariants as program
+use Rattle.lvs_model.specs.ProgramWords.{whole_at, capture_of}
 
--- the number of the first word that is refused: there is one word, and it is `serial`
-abbrev pub refused_word : List (List ℕ) → Option ℕ
-refused_word [] = Some 0
-refused_word (word ∷ []) = if pointwise nat_eq word (codes "serial") then None else Some 0
-refused_word (word ∷ more ∷ rest) = if pointwise nat_eq word (codes "serial") then Some 1 else Some 0
+-- by the first word; the name of another command is refused as any other word is
+abbrev pub asked_named : List ℕ → List (List ℕ) → Result ProgramCommand ℕ
+asked_named name words =
+    if bytes_eq name (codes "serial") then whole_at 1 words program.Serial
+    else if bytes_eq name (codes "capture") then capture_of words
+    else Err 0
+
+-- what the words ask for, or the number, from 0, of the first refused word
+abbrev pub asked_of : List (List ℕ) → Result ProgramCommand ℕ
+asked_of [] = Err 0
+asked_of (name ∷ more) = asked_named name (name ∷ more)
+
+-- the command is one of these, with its numbers in their limits
+abbrev pub IsAsked : ProgramCommand → Type 0
+IsAsked program.Serial = Unit {0}
+IsAsked (program.Capture net bits step) = (bits ≤ 32) × (0 < step)
+IsAsked other = ⊥

@@ -1,6 +1,9 @@
 //! What a call did.
 ghost use Rattle.std.specs.Prelude.{◌≡◌, []};
+ghost use Rattle.lvs_run.specs.Answers.{status_of};
 
+use crate::rounds::Played;
+use crate::writing::Wrote;
 use lvs_types::{RoundBook, Status};
 use std::alloc::Global;
 
@@ -21,5 +24,27 @@ pub(crate) fn without_rounds(alloc: Global, status: Status) -> Done
     Done {
         status,
         rounds: Vec::new(alloc),
+    }
+}
+
+/// The status of a task that ends so once all was written.
+pub(crate) fn ended(end: Status, wrote: Wrote) -> Status
+    ensures { result ≡ status_of end wrote }
+{
+    match wrote {
+        Wrote::All => end,
+        Wrote::Prefix => Status::WriteFault,
+        Wrote::NoMemory => Status::NoMemory,
+    }
+}
+
+/// A call that played rounds, and ends as finished once all was written.
+pub(crate) fn with_rounds(played: Played) -> Done
+    ensures status { result.status ≡ status_of Status.Finished played.wrote }
+    ensures rounds { result.rounds.items ≡ played.rounds.items }
+{
+    Done {
+        status: ended(Status::Finished, played.wrote),
+        rounds: played.rounds,
     }
 }

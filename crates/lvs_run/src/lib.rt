@@ -1,19 +1,23 @@
-//! The top call: reads the program's words and its input, runs the rounds and writes their report.
+//! The top call: reads the program's words and its input, does what they ask for and writes the answer.
 #![tactic(auto)]
 
+mod commands;
 mod director;
 mod done;
 mod exit;
 mod fault;
+mod given;
 mod input;
 mod listings;
+mod output;
+mod parts;
 mod program;
 mod program_words;
-mod report;
 mod round;
 mod rounds;
 mod serial;
 mod streams;
+mod writing;
 
 pub use done::Done;
 pub use exit::exit_code;
@@ -22,6 +26,8 @@ pub use program::serve;
 pub use serial::serve_serial;
 pub use streams::{Served, serve_streams};
 
+#[cfg(test)]
+mod capture_rows;
 #[cfg(test)]
 mod fault_tests;
 #[cfg(test)]

@@ -1,17 +1,14 @@
 //! The call that the program makes.
-ghost use Rattle.std.specs.Prelude.{◌≡◌, ◌≢◌, ◌≤◌, ◌+◌, ◌↔◌, ◌⊎◌, ℕ, List, [], map, length, Some, None, Ok, Err, string_bytes};
-ghost use Rattle.std.specs.Io.KnownBytes.{Appends, Consumes, IsAtEnd};
+ghost use Rattle.std.specs.Prelude.{◌≡◌, ◌≢◌, ◌≤◌, ◌+◌, ◌↔◌, ◌⊎◌, ℕ, List, [], map, length, Some, Ok, Err, string_bytes};
+ghost use Rattle.std.specs.Io.KnownBytes.{Consumes};
 ghost use Rattle.lvs_types.specs.Limits.{max_input};
+ghost use Rattle.lvs_types.specs.declared.program.ProgramCommand.{ProgramCommand};
+ghost use Rattle.lvs_types.specs.declared.status.Status.{Status as StatusSeen};
 ghost use Rattle.lvs_outside.specs.Faults.{Rose, AppendsPrefix};
-ghost use Rattle.lvs_types.specs.declared.script.Script.{Script};
-ghost use Rattle.lvs_types.specs.declared.script.ScriptCause.{ScriptCause};
-ghost use Rattle.lvs_model.specs.declared.script.BadLine.{BadLine};
-ghost use Rattle.lvs_model.specs.Report.{books_text};
-ghost use Rattle.lvs_model.specs.Scripts.{script_of};
-ghost use Rattle.lvs_run.specs.Words.{refused_word};
-ghost use Rattle.lvs_run.specs.SerialBooks.{AreBooksOfSource};
-ghost use Rattle.lvs_run.specs.Answers.{IsOfSerial};
-ghost use Rattle.lvs_run.specs.Written.{AppendsAllButLast};
+ghost use Rattle.lvs_model.specs.Tasks.{Task, task_of, AreBooksOf};
+ghost use Rattle.lvs_run.specs.Words.{asked_of};
+ghost use Rattle.lvs_run.specs.Stages.{IsCompleted, IsRefusal};
+ghost use Rattle.lvs_run.specs.Answers.{IsGiven, IsCarriedOut, IsCutOff};
 
 use crate::Done;
 use crate::serial::serve_serial;
@@ -21,8 +18,8 @@ use std::alloc::Global;
 use std::sync::Wait;
 use std::thread::Threads;
 
-/// Does what the words say with the source, and writes the answer to the sink. So far the words
-/// are `serial` alone, which asks neither the runtime nor the gate.
+/// Does what the words say with the source, and writes the answer to the sink. So far it does the
+/// commands of `serve_serial`, which ask neither the runtime nor the gate, and refuses any other.
 pub fn serve<R: Threads + Wait + Sync, S: Source, K: Sink, G: Gate + Sync>(
     _rt: &R,
     alloc: Global,
@@ -31,16 +28,15 @@ pub fn serve<R: Threads + Wait + Sync, S: Source, K: Sink, G: Gate + Sync>(
     sink: &mut K,
     _gate: &G,
 ) -> Done
-    ensures headline { result.status ≡ Status.Finished → (bytes : List ℕ) × (script : Script) × AreBooksOfSource (S.left source.old) (S.left source.new) bytes script result.rounds.items × (length result.rounds.items ≡ length script.rounds) × Appends (K.written sink.old) (K.written sink.new) (books_text result.rounds.items) }
-    ensures first { result.rounds.items ≢ [] → (bytes : List ℕ) × (script : Script) × AreBooksOfSource (S.left source.old) (S.left source.new) bytes script result.rounds.items }
-    ensures script_refused { (line : ℕ) (cause : ScriptCause) → result.status ≡ Status.ScriptRefused line cause → (bytes : List ℕ) × Consumes (S.left source.old) (S.left source.new) bytes × IsAtEnd (S.left source.new) × (script_of bytes ≡ Err (record { line = line; cause = cause })) }
-    ensures complete { (bytes : List ℕ) (script : Script) → refused_word (map string_bytes words.now) ≡ None → S.left source.old ≡ Some bytes → length bytes ≤ max_input → script_of bytes ≡ Ok script → (Rose (S.faults source.old) (S.faults source.new) → ⊥) → (Rose (K.faults sink.old) (K.faults sink.new) → ⊥) → (result.status ≡ Status.Finished) ⊎ (result.status ≡ Status.NoMemory) }
-    ensures refused_too { (bytes : List ℕ) (bad : BadLine) → refused_word (map string_bytes words.now) ≡ None → S.left source.old ≡ Some bytes → length bytes ≤ max_input → script_of bytes ≡ Err bad → (Rose (S.faults source.old) (S.faults source.new) → ⊥) → (result.status ≡ Status.ScriptRefused bad.line bad.cause) ⊎ (result.status ≡ Status.NoMemory) }
-    ensures only { IsOfSerial result.status }
-    ensures write_fault { result.status ≡ Status.WriteFault → AppendsAllButLast (K.written sink.old) (K.written sink.new) result.rounds.items }
-    ensures no_memory { result.status ≡ Status.NoMemory → AppendsPrefix (K.written sink.old) (K.written sink.new) (books_text result.rounds.items) }
-    ensures refused { result.status ≢ Status.Finished → result.status ≢ Status.WriteFault → result.status ≢ Status.NoMemory → (K.written sink.new ≡ K.written sink.old) × (result.rounds.items ≡ []) }
-    ensures words { (at : ℕ) → (result.status ≡ Status.WordsRefused at) ↔ (refused_word (map string_bytes words.now) ≡ Some at) }
+    ensures headline { IsCompleted result.status → (command : ProgramCommand) × (input : List ℕ) × (task : Task) × IsGiven (map string_bytes words.now) (S.left source.old) (S.left source.new) command input × (task_of command input ≡ Ok task) × IsCarriedOut task (K.written sink.old) (K.written sink.new) result.status result.rounds.items }
+    ensures first { result.rounds.items ≢ [] → (command : ProgramCommand) × (input : List ℕ) × (task : Task) × IsGiven (map string_bytes words.now) (S.left source.old) (S.left source.new) command input × (task_of command input ≡ Ok task) × AreBooksOf task result.rounds.items }
+    ensures refusal { IsRefusal result.status → (command : ProgramCommand) × (input : List ℕ) × IsGiven (map string_bytes words.now) (S.left source.old) (S.left source.new) command input × (task_of command input ≡ Err result.status) }
+    ensures complete { (command : ProgramCommand) (input : List ℕ) (task : Task) → asked_of (map string_bytes words.now) ≡ Ok command → S.left source.old ≡ Some input → length input ≤ max_input → task_of command input ≡ Ok task → (Rose (S.faults source.old) (S.faults source.new) → ⊥) → (Rose (K.faults sink.old) (K.faults sink.new) → ⊥) → (result.status ≡ task.end) ⊎ (result.status ≡ Status.NoMemory) }
+    ensures refused_too { (command : ProgramCommand) (input : List ℕ) (refused : StatusSeen) → asked_of (map string_bytes words.now) ≡ Ok command → S.left source.old ≡ Some input → length input ≤ max_input → task_of command input ≡ Err refused → (Rose (S.faults source.old) (S.faults source.new) → ⊥) → (result.status ≡ refused) ⊎ (result.status ≡ Status.NoMemory) }
+    ensures write_fault { result.status ≡ Status.WriteFault → (command : ProgramCommand) × (input : List ℕ) × (task : Task) × IsGiven (map string_bytes words.now) (S.left source.old) (S.left source.new) command input × (task_of command input ≡ Ok task) × IsCutOff command task (K.written sink.old) (K.written sink.new) result.rounds.items }
+    ensures no_memory { result.status ≡ Status.NoMemory → ((K.written sink.new ≡ K.written sink.old) × (result.rounds.items ≡ [])) ⊎ ((command : ProgramCommand) × (input : List ℕ) × (task : Task) × IsGiven (map string_bytes words.now) (S.left source.old) (S.left source.new) command input × (task_of command input ≡ Ok task) × AppendsPrefix (K.written sink.old) (K.written sink.new) (task.text result.rounds.items)) }
+    ensures nothing { (IsCompleted result.status → ⊥) → result.status ≢ Status.WriteFault → result.status ≢ Status.NoMemory → (K.written sink.new ≡ K.written sink.old) × (result.rounds.items ≡ []) }
+    ensures words { (at : ℕ) → (result.status ≡ Status.WordsRefused at) ↔ (asked_of (map string_bytes words.now) ≡ Err at) }
     ensures too_long { result.status ≡ Status.ScriptTooLong → (bytes : List ℕ) × (length bytes ≡ max_input + 1) × Consumes (S.left source.old) (S.left source.new) bytes }
     ensures short { result.status ≢ Status.ScriptTooLong → result.status ≢ Status.NoMemory → (bytes : List ℕ) × (length bytes ≤ max_input) × Consumes (S.left source.old) (S.left source.new) bytes }
     ensures limit { (bytes : List ℕ) × (length bytes ≤ max_input + 1) × Consumes (S.left source.old) (S.left source.new) bytes }

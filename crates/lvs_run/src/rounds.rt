@@ -1,115 +1,105 @@
 //! Round after round, each written when it is done.
-ghost use Rattle.std.specs.Prelude.{◌≡◌, ◌≢◌, ◌+◌, ◌≤◌, ◌^◌, [], length, Result, Ok};
-ghost use Rattle.std.specs.Io.KnownBytes.{Appends};
-ghost use Rattle.lvs_outside.specs.Faults.{Rose, AppendsPrefix};
-ghost use Rattle.lvs_types.specs.declared.script.Script.{Script};
+ghost use Rattle.std.specs.Prelude.{◌≡◌, ◌+◌, ◌≤◌, ◌^◌, [], ◌∷◌, length};
 ghost use Rattle.lvs_model.specs.State.{State};
-ghost use Rattle.lvs_model.specs.Report.{books_text};
-ghost use Rattle.lvs_model.specs.Scripts.{script_of};
-ghost use Rattle.lvs_run.specs.Written.{AppendsAllButLast};
-ghost use Rattle.lvs_run.specs.Stages.{IsAfterInput};
 ghost use Rattle.lvs_model.specs.ScriptLimits.{AreMoments, IsWithinLimits};
+ghost use Rattle.lvs_model.specs.Tasks.{AreBooksOfRuns, serial_run, rounds_due};
+ghost use Rattle.lvs_run.specs.Written.{AreWritten, HasSinkCause};
 ghost use Rattle.lvs_run.specs.Limits.{steps_in};
 ghost use Rattle.lvs_run.specs.SerialBooks.{ArePlayed};
-ghost use Rattle.lvs_run.specs.Answers.{IsAnswer};
 
-use crate::Done;
 use crate::director::Director;
-use crate::done::without_rounds;
-use crate::report::{Wrote, write_round};
+use crate::output::Output;
 use crate::round::play_round;
+use crate::writing::{Wrote, write_round};
 use lvs_outside::Sink;
-use lvs_script::{ScriptRefused, read_script};
-use lvs_types::{Round, Script, Status};
+use lvs_types::{Round, RoundBook, Script};
 use std::alloc::Global;
+
+/// Rounds that were played, and what became of their texts.
+#[derive(Debug, Drop)]
+pub(crate) struct Played {
+    pub(crate) wrote: Wrote,
+    pub(crate) rounds: Vec<RoundBook>,
+}
+
+/// Nothing was played for want of memory.
+pub(crate) fn nothing_played(alloc: Global) -> Played
+    ensures wrote { result.wrote ≡ Wrote.NoMemory }
+    ensures rounds { result.rounds.items ≡ [] }
+{
+    Played {
+        wrote: Wrote::NoMemory,
+        rounds: Vec::new(alloc),
+    }
+}
 
 /// Plays the rounds one after the other.
 fn play_rounds<K: Sink>(
     alloc: Global,
+    output: Output,
     director: &mut Director,
     rounds: &[Round],
     sink: &mut K,
-) -> Done
+) -> Played
     requires moments { AreMoments rounds.now }
     requires young { director.old.steps + steps_in rounds.now ≤ 2 ^ 62 }
     ensures played { (left : State) × ArePlayed 0 director.old.state rounds.now result.rounds.items left }
-    ensures all { result.status ≡ Status.Finished → length result.rounds.items ≡ length rounds.now }
-    ensures finished { result.status ≡ Status.Finished → Appends (K.written sink.old) (K.written sink.new) (books_text result.rounds.items) }
-    ensures write_fault { result.status ≡ Status.WriteFault → AppendsAllButLast (K.written sink.old) (K.written sink.new) result.rounds.items }
-    ensures no_memory { result.status ≡ Status.NoMemory → AppendsPrefix (K.written sink.old) (K.written sink.new) (books_text result.rounds.items) }
-    ensures rose { result.status ≡ Status.WriteFault → Rose (K.faults sink.old) (K.faults sink.new) }
-    ensures kept { result.status ≢ Status.WriteFault → K.faults sink.new ≡ K.faults sink.old }
-    ensures only { result.status ≢ Status.Finished → result.status ≢ Status.WriteFault → result.status ≢ Status.NoMemory → ⊥ }
-    ensures after { IsAfterInput result.status }
+    ensures all { result.wrote ≡ Wrote.All → length result.rounds.items ≡ length rounds.now }
+    ensures written { AreWritten output (K.written sink.old) (K.written sink.new) result.rounds.items result.wrote }
+    ensures cause { HasSinkCause (K.faults sink.old) (K.faults sink.new) result.wrote }
 {
     let mut books = Vec::new(alloc);
     for round in rounds {
         if books.reserve(1).is_err() {
-            return Done {
-                status: Status::NoMemory,
+            return Played {
+                wrote: Wrote::NoMemory,
                 rounds: books,
             };
         }
         let Ok(book) = play_round(alloc, director, books.len() as u64, round) else {
-            return Done {
-                status: Status::NoMemory,
+            return Played {
+                wrote: Wrote::NoMemory,
                 rounds: books,
             };
         };
-        let wrote = write_round(alloc, &book, sink);
+        let wrote = write_round(alloc, output, &book, sink);
         books.push_reserved(book);
         match wrote {
             Wrote::All => {}
-            Wrote::Prefix => return Done {
-                status: Status::WriteFault,
+            Wrote::Prefix => return Played {
+                wrote: Wrote::Prefix,
                 rounds: books,
             },
-            Wrote::NoMemory => return Done {
-                status: Status::NoMemory,
+            Wrote::NoMemory => return Played {
+                wrote: Wrote::NoMemory,
                 rounds: books,
             },
         }
     }
-    Done {
-        status: Status::Finished,
+    Played {
+        wrote: Wrote::All,
         rounds: books,
     }
 }
 
-/// Plays the script that the bytes spell, from its start.
-pub(crate) fn play_bytes<K: Sink>(alloc: Global, bytes: &[u8], sink: &mut K) -> Done
-    ensures answer { IsAnswer (script_of bytes.now) result.status result.rounds.items }
-    ensures finished { result.status ≡ Status.Finished → Appends (K.written sink.old) (K.written sink.new) (books_text result.rounds.items) }
-    ensures write_fault { result.status ≡ Status.WriteFault → AppendsAllButLast (K.written sink.old) (K.written sink.new) result.rounds.items }
-    ensures no_memory { result.status ≡ Status.NoMemory → AppendsPrefix (K.written sink.old) (K.written sink.new) (books_text result.rounds.items) }
-    ensures refused { result.status ≢ Status.Finished → result.status ≢ Status.WriteFault → result.status ≢ Status.NoMemory → (K.written sink.new ≡ K.written sink.old) × (result.rounds.items ≡ []) }
-    ensures rose { result.status ≡ Status.WriteFault → Rose (K.faults sink.old) (K.faults sink.new) }
-    ensures kept { result.status ≢ Status.WriteFault → K.faults sink.new ≡ K.faults sink.old }
-    ensures after { IsAfterInput result.status }
-{
-    match read_script(alloc, bytes) {
-        Ok(script) => play_script(alloc, &script, sink),
-        Err(ScriptRefused::Refused { line, cause }) => {
-            without_rounds(alloc, Status::ScriptRefused { line, cause })
-        }
-        Err(ScriptRefused::NoMemory) => without_rounds(alloc, Status::NoMemory),
-    }
-}
-
-/// Plays a script from its start.
-fn play_script<K: Sink>(alloc: Global, script: &Script, sink: &mut K) -> Done
+/// Plays a script from its start, and writes of each round what is due.
+pub(crate) fn play_script<K: Sink>(
+    alloc: Global,
+    output: Output,
+    script: &Script,
+    sink: &mut K,
+) -> Played
     requires within { IsWithinLimits script.now.rounds }
-    ensures answer { IsAnswer (Ok script.now) result.status result.rounds.items }
-    ensures finished { result.status ≡ Status.Finished → Appends (K.written sink.old) (K.written sink.new) (books_text result.rounds.items) }
-    ensures write_fault { result.status ≡ Status.WriteFault → AppendsAllButLast (K.written sink.old) (K.written sink.new) result.rounds.items }
-    ensures no_memory { result.status ≡ Status.NoMemory → AppendsPrefix (K.written sink.old) (K.written sink.new) (books_text result.rounds.items) }
-    ensures rose { result.status ≡ Status.WriteFault → Rose (K.faults sink.old) (K.faults sink.new) }
-    ensures kept { result.status ≢ Status.WriteFault → K.faults sink.new ≡ K.faults sink.old }
-    ensures only { result.status ≢ Status.Finished → result.status ≢ Status.WriteFault → result.status ≢ Status.NoMemory → ⊥ }
-    ensures after { IsAfterInput result.status }
+    ensures books { AreBooksOfRuns (serial_run script.now ∷ []) result.rounds.items }
+    ensures all { result.wrote ≡ Wrote.All → length result.rounds.items ≡ rounds_due (serial_run script.now ∷ []) }
+    ensures written { AreWritten output (K.written sink.old) (K.written sink.new) result.rounds.items result.wrote }
+    ensures cause { HasSinkCause (K.faults sink.old) (K.faults sink.new) result.wrote }
 {
     match Director::new(alloc, script.local) {
-        Ok(mut director) => play_rounds(alloc, &mut director, script.rounds.as_slice(), sink),
-        Err(_) => without_rounds(alloc, Status::NoMemory),
+        Ok(mut director) => {
+            let rounds = script.rounds.as_slice();
+            play_rounds(alloc, output, &mut director, rounds, sink)
+        }
+        Err(_) => nothing_played(alloc),
     }
 }

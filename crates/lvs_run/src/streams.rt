@@ -1,18 +1,15 @@
 //! The call that the program makes: `serve` over a reader and a writer of std.
-ghost use Rattle.std.specs.Prelude.{◌≡◌, ◌≢◌, ◌<◌, ◌≤◌, ◌+◌, ◌↔◌, ◌⊎◌, ℕ, List, [], map, length, Some, None, Ok, Err, string_bytes};
-ghost use Rattle.std.specs.Io.KnownBytes.{Appends, Consumes, IsAtEnd};
+ghost use Rattle.std.specs.Prelude.{◌≡◌, ◌≢◌, ◌<◌, ◌≤◌, ◌+◌, ◌↔◌, ◌⊎◌, ℕ, List, [], map, length, Some, Ok, Err, string_bytes};
+ghost use Rattle.std.specs.Io.KnownBytes.{Consumes};
 ghost use Rattle.lvs_types.specs.Limits.{max_input};
-ghost use Rattle.lvs_types.specs.declared.script.Script.{Script};
-ghost use Rattle.lvs_types.specs.declared.script.ScriptCause.{ScriptCause};
+ghost use Rattle.lvs_types.specs.declared.program.ProgramCommand.{ProgramCommand};
+ghost use Rattle.lvs_types.specs.declared.status.Status.{Status as StatusSeen};
 ghost use Rattle.lvs_outside.specs.Faults.{AppendsPrefix};
 ghost use Rattle.lvs_outside.specs.Streams.{Holds};
-ghost use Rattle.lvs_model.specs.declared.script.BadLine.{BadLine};
-ghost use Rattle.lvs_model.specs.Report.{books_text};
-ghost use Rattle.lvs_model.specs.Scripts.{script_of};
-ghost use Rattle.lvs_run.specs.Words.{refused_word};
-ghost use Rattle.lvs_run.specs.SerialBooks.{AreBooksOfSource};
-ghost use Rattle.lvs_run.specs.Answers.{IsOfSerial};
-ghost use Rattle.lvs_run.specs.Written.{AppendsAllButLast};
+ghost use Rattle.lvs_model.specs.Tasks.{Task, task_of, AreBooksOf};
+ghost use Rattle.lvs_run.specs.Words.{asked_of};
+ghost use Rattle.lvs_run.specs.Stages.{IsCompleted, IsRefusal};
+ghost use Rattle.lvs_run.specs.Answers.{IsGiven, IsCarriedOut, IsCutOff};
 
 use crate::{Done, serve};
 use lvs_outside::{Gate, ReadSource, WriteSink};
@@ -35,8 +32,7 @@ pub struct Served<I: Read, O: Write> {
 }
 
 /// Does what the words say with the bytes of the reader, and writes the answer to the writer, as
-/// far as std's reader and writer tell what they give and take. So far the words are `serial`
-/// alone.
+/// far as std's reader and writer tell what they give and take.
 pub fn serve_streams<R: Threads + Wait + Sync, I: Read, O: Write, G: Gate + Sync>(
     rt: &R,
     alloc: Global,
@@ -45,16 +41,15 @@ pub fn serve_streams<R: Threads + Wait + Sync, I: Read, O: Write, G: Gate + Sync
     writer: O,
     gate: &G,
 ) -> Served<I, O>
-    ensures headline { result.done.status ≡ Status.Finished → (bytes : List ℕ) × (script : Script) × AreBooksOfSource (I.remaining reader) result.source.left bytes script result.done.rounds.items × (length result.done.rounds.items ≡ length script.rounds) × Appends (O.contents writer) result.sink.handed (books_text result.done.rounds.items) }
-    ensures first { result.done.rounds.items ≢ [] → (bytes : List ℕ) × (script : Script) × AreBooksOfSource (I.remaining reader) result.source.left bytes script result.done.rounds.items }
-    ensures script_refused { (line : ℕ) (cause : ScriptCause) → result.done.status ≡ Status.ScriptRefused line cause → (bytes : List ℕ) × Consumes (I.remaining reader) result.source.left bytes × IsAtEnd result.source.left × (script_of bytes ≡ Err (record { line = line; cause = cause })) }
-    ensures complete { (bytes : List ℕ) (script : Script) → refused_word (map string_bytes words.now) ≡ None → I.remaining reader ≡ Some bytes → length bytes ≤ max_input → script_of bytes ≡ Ok script → result.source.faults ≡ 0 → result.sink.faults ≡ 0 → (result.done.status ≡ Status.Finished) ⊎ (result.done.status ≡ Status.NoMemory) }
-    ensures refused_too { (bytes : List ℕ) (bad : BadLine) → refused_word (map string_bytes words.now) ≡ None → I.remaining reader ≡ Some bytes → length bytes ≤ max_input → script_of bytes ≡ Err bad → result.source.faults ≡ 0 → (result.done.status ≡ Status.ScriptRefused bad.line bad.cause) ⊎ (result.done.status ≡ Status.NoMemory) }
-    ensures only { IsOfSerial result.done.status }
-    ensures write_fault { result.done.status ≡ Status.WriteFault → AppendsAllButLast (O.contents writer) result.sink.written result.done.rounds.items }
-    ensures no_memory { result.done.status ≡ Status.NoMemory → AppendsPrefix (O.contents writer) result.sink.handed (books_text result.done.rounds.items) }
-    ensures refused { result.done.status ≢ Status.Finished → result.done.status ≢ Status.WriteFault → result.done.status ≢ Status.NoMemory → (result.sink.handed ≡ O.contents writer) × (result.done.rounds.items ≡ []) }
-    ensures words { (at : ℕ) → (result.done.status ≡ Status.WordsRefused at) ↔ (refused_word (map string_bytes words.now) ≡ Some at) }
+    ensures headline { IsCompleted result.done.status → (command : ProgramCommand) × (input : List ℕ) × (task : Task) × IsGiven (map string_bytes words.now) (I.remaining reader) result.source.left command input × (task_of command input ≡ Ok task) × IsCarriedOut task (O.contents writer) result.sink.handed result.done.status result.done.rounds.items }
+    ensures first { result.done.rounds.items ≢ [] → (command : ProgramCommand) × (input : List ℕ) × (task : Task) × IsGiven (map string_bytes words.now) (I.remaining reader) result.source.left command input × (task_of command input ≡ Ok task) × AreBooksOf task result.done.rounds.items }
+    ensures refusal { IsRefusal result.done.status → (command : ProgramCommand) × (input : List ℕ) × IsGiven (map string_bytes words.now) (I.remaining reader) result.source.left command input × (task_of command input ≡ Err result.done.status) }
+    ensures complete { (command : ProgramCommand) (input : List ℕ) (task : Task) → asked_of (map string_bytes words.now) ≡ Ok command → I.remaining reader ≡ Some input → length input ≤ max_input → task_of command input ≡ Ok task → result.source.faults ≡ 0 → result.sink.faults ≡ 0 → (result.done.status ≡ task.end) ⊎ (result.done.status ≡ Status.NoMemory) }
+    ensures refused_too { (command : ProgramCommand) (input : List ℕ) (refused : StatusSeen) → asked_of (map string_bytes words.now) ≡ Ok command → I.remaining reader ≡ Some input → length input ≤ max_input → task_of command input ≡ Err refused → result.source.faults ≡ 0 → (result.done.status ≡ refused) ⊎ (result.done.status ≡ Status.NoMemory) }
+    ensures write_fault { result.done.status ≡ Status.WriteFault → (command : ProgramCommand) × (input : List ℕ) × (task : Task) × IsGiven (map string_bytes words.now) (I.remaining reader) result.source.left command input × (task_of command input ≡ Ok task) × IsCutOff command task (O.contents writer) result.sink.written result.done.rounds.items }
+    ensures no_memory { result.done.status ≡ Status.NoMemory → ((result.sink.handed ≡ O.contents writer) × (result.done.rounds.items ≡ [])) ⊎ ((command : ProgramCommand) × (input : List ℕ) × (task : Task) × IsGiven (map string_bytes words.now) (I.remaining reader) result.source.left command input × (task_of command input ≡ Ok task) × AppendsPrefix (O.contents writer) result.sink.handed (task.text result.done.rounds.items)) }
+    ensures nothing { (IsCompleted result.done.status → ⊥) → result.done.status ≢ Status.WriteFault → result.done.status ≢ Status.NoMemory → (result.sink.handed ≡ O.contents writer) × (result.done.rounds.items ≡ []) }
+    ensures words { (at : ℕ) → (result.done.status ≡ Status.WordsRefused at) ↔ (asked_of (map string_bytes words.now) ≡ Err at) }
     ensures too_long { result.done.status ≡ Status.ScriptTooLong → (bytes : List ℕ) × (length bytes ≡ max_input + 1) × Consumes (I.remaining reader) result.source.left bytes }
     ensures short { result.done.status ≢ Status.ScriptTooLong → result.done.status ≢ Status.NoMemory → (bytes : List ℕ) × (length bytes ≤ max_input) × Consumes (I.remaining reader) result.source.left bytes }
     ensures limit { (bytes : List ℕ) × (length bytes ≤ max_input + 1) × Consumes (I.remaining reader) result.source.left bytes }

@@ -16,13 +16,13 @@ const REPORT: &[u8] =
 
 /// What a run gave: its status, how many rounds it had, and what it wrote.
 #[derive(Drop)]
-struct Outcome {
-    status: Status,
-    rounds: usize,
-    text: Vec<u8>,
+pub(crate) struct Outcome {
+    pub(crate) status: Status,
+    pub(crate) rounds: usize,
+    pub(crate) text: Vec<u8>,
 }
 
-fn served(
+pub(crate) fn served(
     alloc: Global,
     words: &[&str],
     script: &[u8],

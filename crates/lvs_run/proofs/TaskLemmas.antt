@@ -1,0 +1,159 @@
+-- What each command makes of its input.
+use Rattle.std.proofs.Common.{◌≡◌, ◌≢◌, ℕ, ◌+◌, ◌⊎◌, inl, inr, List, [], ◌∷◌, ◌++◌, Option, Some, None, Result, Ok, Err, length, refl, sym, ◌∙◌, ap, subst}
+use Rattle.std.specs.Prelude.{codes}
+use Rattle.std.specs.Io.KnownBytes.{Appends}
+use Rattle.lvs_outside.specs.Faults.{Rose, AppendsPrefix, AppendsProperPrefix}
+use Rattle.lvs_types.specs.declared.addr.Addr.{Addr}
+use Rattle.lvs_types.specs.declared.book.RoundBook.{RoundBook}
+use Rattle.lvs_types.specs.declared.capture.Capture.{Capture}
+use Rattle.lvs_types.specs.declared.program.ProgramCommand.{ProgramCommand}
+use Rattle.lvs_types.specs.declared.program.ProgramCommand.TheVariants as program
+use Rattle.lvs_types.specs.declared.script.Script.{Script}
+use Rattle.lvs_types.specs.declared.status.Status.{Status}
+use Rattle.lvs_types.specs.declared.status.Status.TheVariants as status
+use Rattle.lvs_model.specs.declared.capture.BadCapture.{BadCapture}
+use Rattle.lvs_model.specs.declared.script.BadLine.{BadLine}
+use Rattle.lvs_model.specs.CaptureFiles.{capture_of}
+use Rattle.lvs_model.specs.Captured.{captured}
+use Rattle.lvs_model.specs.Inputs.{Parts, parts_of}
+use Rattle.lvs_model.specs.Refusals.{◌>>=◌}
+use Rattle.lvs_model.specs.Scripts.{script_of}
+use Rattle.lvs_model.specs.Tasks.{Task, task_of, report_task, capture_task, serial_run, script_given, script_behind, capture_given, AreBooksOf, AreBooksOfRuns, IsPlayedOut, rounds_due}
+use Rattle.lvs_run.specs.declared.output.Output.TheVariants as output
+use Rattle.lvs_run.specs.declared.writing.Wrote.{Wrote}
+use Rattle.lvs_run.specs.declared.writing.Wrote.TheVariants as wrote
+use Rattle.lvs_run.specs.Answers.{IsWrittenOf, IsAnswer, IsReady, status_of}
+use Rattle.lvs_run.specs.Stages.{IsRefusal, IsRefusedBy}
+use Rattle.lvs_run.specs.Written.{AreWritten, IsSent}
+use Rattle.lvs_run.proofs.AnswerLemmas.{refused_answer}
+use Rattle.lvs_run.proofs.Books.{reports_are, report_is_cut, nothing_appended}
+use Rattle.lvs_run.proofs.LegalLemmas.{no_books_of_run}
+
+-- a refusal goes through what would come later
+pub passed_on : {A B : Type 0} (r : Result A Status) (f : A → Result B Status) (s : Status) → IsRefusedBy r s → IsRefusedBy (r >>= f) s
+passed_on r f status.NoMemory is = tt
+passed_on r f (status.ScriptRefused line why) is = rw is refl
+passed_on r f (status.CaptureRefused at why) is = rw is refl
+passed_on r f status.Finished is = is
+passed_on r f (status.WordsRefused at) is = is
+passed_on r f status.ReadFault is = is
+passed_on r f status.WriteFault is = is
+passed_on r f status.ScriptTooLong is = is
+passed_on r f (status.Illegal verdict) is = is
+
+-- an input that is refused is so for its script or its capture
+abbrev IsRefused : {A : Type 0} → Result A Status → Type 0
+IsRefused {A = A} (Ok given) = Unit {0}
+IsRefused {A = A} (Err refused) = IsRefusal refused
+
+script_refused : (lines : ℕ) (r : Result Script BadLine) → IsRefused (script_behind lines r)
+script_refused lines (Ok script) = tt
+script_refused lines (Err bad) = tt
+
+capture_refused : {A : Type 0} (r : Result A BadCapture) → IsRefused (capture_given r)
+capture_refused (Ok given) = tt
+capture_refused (Err bad) = tt
+
+abbrev ready_then : {A : Type 0} → (A → Result Task Status) → Result A Status → Type 0
+ready_then {A = A} f r = IsReady (r >>= f)
+
+ready_by : {A : Type 0} (r : Result A Status) (f : A → Result Task Status) → IsRefused r → ((given : A) → IsReady (f given)) → IsReady (r >>= f)
+ready_by (Ok given) f is each = each given
+ready_by (Err refused) f is each = is
+
+ready_run : (script : Script) → IsReady (Ok (report_task (serial_run script)))
+ready_run script = (tt, no_books_of_run script)
+
+ready_capture : (script : Script) → IsReady (Ok (capture_task (serial_run script)))
+ready_capture script = (tt, no_books_of_run script)
+
+-- THE REPORT OF A SCRIPT
+
+pub ready_serial : (input : List ℕ) → IsReady (task_of program.Serial input)
+ready_serial input = ready_by (script_given input) (λ (script : Script). Ok (report_task (serial_run script))) (script_refused 0 (script_of input)) ready_run
+
+report_of : (script : Script) (old new : Option (List ℕ)) (books : List RoundBook) (w : Wrote) → (w ≡ wrote.All → length books ≡ rounds_due (serial_run script ∷ [])) → AreWritten output.Report old new books w → IsWrittenOf program.Serial (report_task (serial_run script)) old new books w
+report_of script old new books wrote.All all written = (all refl, subst (λ (t : List ℕ). Appends old new t) (reports_are books) written)
+report_of script old new books wrote.Prefix all written = report_is_cut old new books written
+report_of script old new books wrote.NoMemory all written = subst (λ (t : List ℕ). AppendsPrefix old new t) (reports_are books) written
+
+answer_with : (command : ProgramCommand) (r : Result Task Status) (task : Task) (old new : Option (List ℕ)) (s : Status) (books : List RoundBook) → r ≡ Ok task → IsAnswer command (Ok task) old new s books → IsAnswer command r old new s books
+answer_with command r task old new s books is answer = subst (λ (x : Result Task Status). IsAnswer command x old new s books) (sym is) answer
+
+pub report_answer : (input : List ℕ) (script : Script) (old new : Option (List ℕ)) (s : Status) (books all_books : List RoundBook) (w : Wrote) → script_given input ≡ Ok script → s ≡ status_of status.Finished w → all_books ≡ books → AreBooksOfRuns (serial_run script ∷ []) books → (w ≡ wrote.All → length books ≡ rounds_due (serial_run script ∷ [])) → AreWritten output.Report old new books w → IsAnswer program.Serial (task_of program.Serial input) old new s all_books
+report_answer input script old new s books all_books w given is same are all written =
+    let task : Task = report_task (serial_run script) in
+    let found : task_of program.Serial input ≡ Ok task = rw given refl in
+    subst (λ (l : List RoundBook). IsAnswer program.Serial (task_of program.Serial input) old new s l) (sym same)
+    (answer_with program.Serial (task_of program.Serial input) task old new s books found (w, is, tt, are, report_of script old new books w all written))
+
+pub serial_refused : (input : List ℕ) (old new : Option (List ℕ)) (found s : Status) (books : List RoundBook) → IsRefusedBy (script_given input) found → s ≡ found → new ≡ old → books ≡ [] → IsAnswer program.Serial (task_of program.Serial input) old new s books
+serial_refused input old new found s books is same kept none =
+    subst (λ (t : Status). IsAnswer program.Serial (task_of program.Serial input) old new t books) (sym same)
+    (refused_answer program.Serial (task_of program.Serial input) old new found books (passed_on (script_given input) (λ (script : Script). Ok (report_task (serial_run script))) found is) (ready_serial input) (λ task. nothing_appended old new (task.text []) kept) kept none)
+
+-- A CAPTURE
+
+abbrev with_capture : Addr → ℕ → ℕ → Script → Capture → Result Task Status
+with_capture net bits step script capture = capture_given (captured net bits step script capture) >>= (λ (whole : Script). Ok (capture_task (serial_run whole)))
+
+abbrev with_file : Addr → ℕ → ℕ → List ℕ → Script → Result Task Status
+with_file net bits step second script = capture_given (capture_of second) >>= with_capture net bits step script
+
+ready_file : (net : Addr) (bits step : ℕ) (second : List ℕ) (script : Script) → IsReady (with_file net bits step second script)
+ready_file net bits step second script =
+    ready_by (capture_given (capture_of second)) (with_capture net bits step script) (capture_refused (capture_of second)) (λ capture. ready_by (capture_given (captured net bits step script capture)) (λ (whole : Script). Ok (capture_task (serial_run whole))) (capture_refused (captured net bits step script capture)) ready_capture)
+
+pub ready_captured : (net : Addr) (bits step : ℕ) (input : List ℕ) → IsReady (task_of (program.Capture net bits step) input)
+ready_captured net bits step input =
+    let parts : Parts = parts_of (codes "capture") input in
+    ready_by (script_given parts.first) (with_file net bits step parts.second) (script_refused 0 (script_of parts.first)) (ready_file net bits step parts.second)
+
+abbrev parts_for : List ℕ → Parts
+parts_for input = parts_of (codes "capture") input
+
+pub captured_task : (net : Addr) (bits step : ℕ) (input first second : List ℕ) (script whole : Script) (capture : Capture) → first ≡ (parts_for input).first → second ≡ (parts_for input).second → script_given first ≡ Ok script → capture_of second ≡ Ok capture → captured net bits step script capture ≡ Ok whole → task_of (program.Capture net bits step) input ≡ Ok (capture_task (serial_run whole))
+captured_task net bits step input first second script whole capture one two given read made =
+    let here : script_given (parts_for input).first ≡ Ok script = ap script_given (sym one) ∙ given in
+    let there : capture_of (parts_for input).second ≡ Ok capture = ap capture_of (sym two) ∙ read in
+    rw (here, there, made) refl
+
+-- refused at its script, at its file, and at a packet
+pub refused_script : (net : Addr) (bits step : ℕ) (input first : List ℕ) (s : Status) → first ≡ (parts_for input).first → IsRefusedBy (script_given first) s → IsRefusedBy (task_of (program.Capture net bits step) input) s
+refused_script net bits step input first s one is =
+    passed_on (script_given (parts_for input).first) (with_file net bits step (parts_for input).second) s (subst (λ (l : List ℕ). IsRefusedBy (script_given l) s) one is)
+
+along_ok : {A : Type 0} (r : Result A Status) (f : A → Result Task Status) (given : A) (s : Status) → r ≡ Ok given → IsRefusedBy (f given) s → IsRefusedBy (r >>= f) s
+along_ok r f given s is refused = rw is refused
+
+pub refused_file : (net : Addr) (bits step : ℕ) (input first second : List ℕ) (script : Script) (s : Status) → first ≡ (parts_for input).first → second ≡ (parts_for input).second → script_given first ≡ Ok script → IsRefusedBy (capture_given (capture_of second)) s → IsRefusedBy (task_of (program.Capture net bits step) input) s
+refused_file net bits step input first second script s one two given is =
+    let here : script_given (parts_for input).first ≡ Ok script = ap script_given (sym one) ∙ given in
+    along_ok (script_given (parts_for input).first) (with_file net bits step (parts_for input).second) script s here
+    (passed_on (capture_given (capture_of (parts_for input).second)) (with_capture net bits step script) s (subst (λ (l : List ℕ). IsRefusedBy (capture_given (capture_of l)) s) two is))
+
+given_as : (r : Result Capture BadCapture) (capture : Capture) → r ≡ Ok capture → capture_given r ≡ Ok capture
+given_as r capture is = rw is refl
+
+pub refused_packet : (net : Addr) (bits step : ℕ) (input first second : List ℕ) (script : Script) (capture : Capture) (s : Status) → first ≡ (parts_for input).first → second ≡ (parts_for input).second → script_given first ≡ Ok script → capture_of second ≡ Ok capture → IsRefusedBy (capture_given (captured net bits step script capture)) s → IsRefusedBy (task_of (program.Capture net bits step) input) s
+refused_packet net bits step input first second script capture s one two given read is =
+    let here : script_given (parts_for input).first ≡ Ok script = ap script_given (sym one) ∙ given in
+    let there : capture_given (capture_of (parts_for input).second) ≡ Ok capture = given_as (capture_of (parts_for input).second) capture (ap capture_of (sym two) ∙ read) in
+    along_ok (script_given (parts_for input).first) (with_file net bits step (parts_for input).second) script s here
+    (along_ok (capture_given (capture_of (parts_for input).second)) (with_capture net bits step script) capture s there
+    (passed_on (capture_given (captured net bits step script capture)) (λ (whole : Script). Ok (capture_task (serial_run whole))) s is))
+
+sent_of : (net : Addr) (bits step : ℕ) (script : Script) (old new : Option (List ℕ)) (books : List RoundBook) (w : Wrote) → (w ≡ wrote.All → length books ≡ rounds_due (serial_run script ∷ [])) → IsSent old new books w → IsWrittenOf (program.Capture net bits step) (capture_task (serial_run script)) old new books w
+sent_of net bits step script old new books wrote.All all written = (all refl, written)
+sent_of net bits step script old new books wrote.Prefix all written = written
+sent_of net bits step script old new books wrote.NoMemory all written = written
+
+pub capture_answer : (net : Addr) (bits step : ℕ) (input : List ℕ) (script : Script) (old new : Option (List ℕ)) (s : Status) (books all_books : List RoundBook) (w : Wrote) → task_of (program.Capture net bits step) input ≡ Ok (capture_task (serial_run script)) → s ≡ status_of status.Finished w → all_books ≡ books → AreBooksOfRuns (serial_run script ∷ []) books → (w ≡ wrote.All → length books ≡ rounds_due (serial_run script ∷ [])) → IsSent old new books w → IsAnswer (program.Capture net bits step) (task_of (program.Capture net bits step) input) old new s all_books
+capture_answer net bits step input script old new s books all_books w found is same are all written =
+    subst (λ (l : List RoundBook). IsAnswer (program.Capture net bits step) (task_of (program.Capture net bits step) input) old new s l) (sym same)
+    (answer_with (program.Capture net bits step) (task_of (program.Capture net bits step) input) (capture_task (serial_run script)) old new s books found (w, is, tt, are, sent_of net bits step script old new books w all written))
+
+pub captured_refused : (net : Addr) (bits step : ℕ) (input : List ℕ) (old new : Option (List ℕ)) (found s : Status) (books : List RoundBook) → IsRefusedBy (task_of (program.Capture net bits step) input) found → s ≡ found → new ≡ old → books ≡ [] → IsAnswer (program.Capture net bits step) (task_of (program.Capture net bits step) input) old new s books
+captured_refused net bits step input old new found s books is same kept none =
+    subst (λ (t : Status). IsAnswer (program.Capture net bits step) (task_of (program.Capture net bits step) input) old new t books) (sym same)
+    (refused_answer (program.Capture net bits step) (task_of (program.Capture net bits step) input) old new found books is (ready_captured net bits step input) (λ task. nothing_appended old new (task.text []) kept) kept none)
