@@ -33,11 +33,11 @@ pub trait Tables<W: Whole> {
     ghost use Rattle.lvs_types.specs.Thresholds.{has_bad_thresholds};
     ghost use Rattle.lvs_model.specs.State.{State};
     ghost use Rattle.lvs_model.specs.Lists.{update_first, without};
-    ghost use Rattle.lvs_model.specs.Lookups.{dest_at, service_at, find_service, template_at, template_of_id, servers_of, has_service_key, has_entry_id, has_dest_id, is_server_of, is_server_at};
+    ghost use Rattle.lvs_model.specs.Lookups.{dest_at, service_at, find_service, template_at, template_of_id, servers_of, has_service_key, has_entry_id, is_server_of, is_server_at};
     ghost use Rattle.lvs_model.specs.Counts.{candidates, total};
     ghost use Rattle.lvs_model.specs.Binding.{put_entry, put_template, bind_entry, serves_at};
     ghost use Rattle.lvs_model.specs.Scheduling.{with_cursor, replace_template};
-    ghost use Rattle.lvs_model.specs.Edits.{with_fresh_cursor, place_server, is_revivable, respecified, remove_dests, step_back};
+    ghost use Rattle.lvs_model.specs.Edits.{with_fresh_cursor, place_server, is_revivable, respecified, remove_dests, remove_dest};
     ghost use Rattle.lvs_model.specs.Incoming.{end_entry};
     ghost use Rattle.lvs_model.specs.Clock.{is_swept, sweep, reap};
     ghost use Rattle.lvs_rules.specs.Bounds.{HasHeadroom};
@@ -175,12 +175,6 @@ pub trait Tables<W: Whole> {
         ensures template_room { has_template_room self.old → has_template_room self.new }
         ensures record_room { record_room self.new ≡ record_room self.old };
 
-    /// A cursor of the service that names the server goes back to the one before it.
-    fn step_back(&mut self, key: ServiceKey, id: DestId)
-        requires sound { is_sound self.old }
-        ensures state { state self.new ≡ record (state self.old) { services = update_first (has_service_key key) (step_back id (servers_of key (state self.old).dests)) (state self.old).services } }
-        ensures sound { is_sound self.new };
-
     // ---- servers
 
     /// The server of an id, live or in the trash.
@@ -261,19 +255,19 @@ pub trait Tables<W: Whole> {
         ensures sound { is_sound self.new };
 
     /// The live server at the address and port leaves its service: it is released where nothing
-    /// names it, and else goes to the trash. The cursor of the service stays.
+    /// names it, and else goes to the trash. A cursor of the service that names it goes back to the
+    /// one before it.
     fn remove_server(
         &mut self,
         alloc: Global,
         key: ServiceKey,
         addr: Addr,
         port: u16,
-        id: DestId,
+        d: &Dest,
     ) -> Result<(), NoMemory>
         requires sound { is_sound self.old }
-        requires there { IfSome (find (is_server_at key addr port) (state self.old).dests) (λ (d : Dest). d.id ≡ id) }
-        requires some { list_any (is_server_at key addr port) (state self.old).dests ≡ true }
-        ensures ok { OnOk result (state self.new ≡ record (state self.old) { dests = remove_dests (has_dest_id id) (state self.old).entries (state self.old).templates (state self.old).dests }) }
+        requires there { find (is_server_at key addr port) (state self.old).dests ≡ Some d.now }
+        ensures ok { OnOk result (state self.new ≡ remove_dest (state self.old) key d.now) }
         ensures err { OnErr result (state self.new ≡ state self.old) }
         ensures sound { is_sound self.new };
 

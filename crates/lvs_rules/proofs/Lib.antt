@@ -1,0 +1,11 @@
+pub mod Weighed
+pub mod Runs
+pub mod Leaving
+pub mod Ended
+pub mod TooLong
+pub mod Short
+pub mod Lengths
+pub mod Finds
+pub mod Records
+pub mod Sweeps
+pub mod Room
