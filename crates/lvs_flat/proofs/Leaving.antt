@@ -1,8 +1,6 @@
 -- Lists without one of their elements, and places in them.
 use Rattle.std.proofs.Common.{◌≡◌, ℕ, ◌+◌, ◌-◌, ◌<◌, zero, suc, Bool, true, false, cond, not, ◌&&◌, List, [], ◌∷◌, count_by, slice_get, None, refl, sym, ap, ◌∙◌, arith}
-use Rattle.lvs_types.specs.declared.dest.Dest.{Dest}
 use Rattle.lvs_model.specs.Lists.{without}
-use Rattle.lvs_flat.specs.Views.{dests_in}
 use Rattle.lvs_well_formed.proofs.Counting.{count_cons}
 
 count_step : {X : Type 0} (q : X → Bool) (b : Bool) (x : X) (ys : List X) (n : ℕ) → count_by q ys ≡ n → count_by q (cond (not b) (x ∷ ys) ys) ≡ cond (not b && q x) 1 0 + n
@@ -19,7 +17,3 @@ count_without p q (x ∷ xs) =
 pub later_place : {X : Type 0} (x : X) (xs : List X) (n : ℕ) → 0 < n → slice_get (x ∷ xs) n ≡ slice_get xs (n - 1)
 later_place x xs zero some = absurd (omega arith)
 later_place x xs (suc n) some = let same : n ≡ suc n - 1 = omega arith in ap (slice_get xs) same
-
-pub as_they_are : (ds : List Dest) → dests_in None ds ≡ ds
-as_they_are [] = refl
-as_they_are (d ∷ ds) = ap (λ (rest : List Dest). d ∷ rest) (as_they_are ds)

@@ -1,10 +1,7 @@
 pub mod Updates
 pub mod Least
-pub mod Weighed
-pub mod Runs
 pub mod Leaving
-pub mod Ended
-pub mod TooLong
-pub mod Short
-pub mod Room
 pub mod Ordered
+pub mod Given
+pub mod Nothing
+pub mod Swept

@@ -1,26 +1,20 @@
-//! The clock: the moment, the sweep of a bucket, and the reaping of templates and servers.
-ghost use Rattle.std.specs.Prelude.{◌≡◌, ◌<◌, ◌≤◌, ◌^◌, ◌==◌, ◌&&◌, ◌+◌, nat_le, IfOk, OnErr, count_by, map, not, length};
+//! The due entries of a bucket, and the reaping of templates and servers.
+ghost use Rattle.std.specs.Prelude.{◌≡◌, ◌<◌, ◌≤◌, ◌^◌, ◌==◌, ◌&&◌, ◌+◌, nat_le, IfOk, OnOk, OnErr, count_by, map, not, length};
 ghost use Rattle.std.specs.List.{filter, list_any};
 ghost use Rattle.lvs_types.specs.declared.entry.Entry.{Entry};
-ghost use Rattle.lvs_flat.specs.Tables.{state_of};
+ghost use Rattle.lvs_flat.specs.Lists.{state_of};
 ghost use Rattle.lvs_model.specs.Lists.{without};
 ghost use Rattle.lvs_model.specs.Counts.{active, inactive, total};
-ghost use Rattle.lvs_model.specs.Clock.{tick, entry_bucket, is_swept, is_named_in, after_ends, sweep, is_over, is_held, held_longer, reaped_template, reaped_templates, is_released, reap};
+ghost use Rattle.lvs_model.specs.Clock.{entry_bucket, is_swept, is_named_in, after_ends, sweep, is_over, is_held, held_longer, reaped_template, reaped_templates, is_released, reap};
 
-use crate::dests::{count_refs, relieved};
+use crate::dests::count_refs;
 use crate::entries::count_controls;
-use crate::tables::Tables;
+use crate::lists::Lists;
 use lvs_model::bucket_of;
+use lvs_rules::relieved;
 use lvs_states::is_active;
 use lvs_types::{Dest, DestId, Entry, NoMemory, Reply, Template};
 use std::alloc::Global;
-
-pub(crate) fn tick(tables: &mut Tables, moment: u64) -> Reply
-    ensures { (result, state_of tables.new) ≡ tick (state_of tables.old) moment }
-{
-    tables.moment = moment;
-    Reply::Ticked
-}
 
 /// Whether an entry is in the bucket and due.
 fn sweeps(buckets: u32, now: u64, bucket: u32, e: &Entry) -> bool
@@ -30,41 +24,34 @@ fn sweeps(buckets: u32, now: u64, bucket: u32, e: &Entry) -> bool
     bucket_of(e.key.proto.code(), e.key.caddr, e.key.cport, buckets) == bucket && e.deadline <= now
 }
 
-/// How many entries are in the bucket and due.
-fn count_swept(tables: &Tables, bucket: u32) -> u64
-    requires { 0 < tables.now.buckets }
-    ensures { result ≡ length (filter (is_swept (state_of tables.now) bucket) tables.now.entries.items) }
+/// The due entries of a bucket, in order of the list.
+pub(crate) fn list_due(alloc: Global, lists: &Lists, bucket: u32) -> Result<Vec<Entry>, NoMemory>
+    requires { 0 < lists.now.buckets }
+    ensures { IfOk result (λ v. v.items ≡ filter (is_swept (state_of lists.now) bucket) lists.now.entries.items) }
 {
-    let buckets = tables.buckets;
-    let now = tables.moment;
-    tables
-        .entries
-        .iter()
-        .filter(|e| sweeps(buckets, now, bucket, e))
-        .count() as u64
+    let mut due = Vec::new(alloc);
+    for e in &lists.entries {
+        if sweeps(lists.buckets, lists.moment, bucket, e) {
+            due.push(*e)?;
+        }
+    }
+    Ok(due)
 }
 
-fn is_named_by_swept(tables: &Tables, bucket: u32, d: &Dest) -> bool
-    requires { 0 < tables.now.buckets }
-    ensures { result ≡ is_named_in (filter (is_swept (state_of tables.now) bucket) tables.now.entries.items) d.now }
+fn is_named_by(due: &[Entry], d: &Dest) -> bool
+    ensures { result ≡ is_named_in due.now d.now }
 {
-    let buckets = tables.buckets;
-    let now = tables.moment;
-    tables
-        .entries
-        .iter()
-        .filter(|e| sweeps(buckets, now, bucket, e))
-        .any(|e| e.server == Some(d.id))
+    due.iter().any(|e| e.server == Some(d.id))
 }
 
-fn count_left_active(tables: &Tables, bucket: u32, id: DestId) -> u64
-    requires { 0 < tables.now.buckets }
-    ensures value { result ≡ active id (without (is_swept (state_of tables.now) bucket) tables.now.entries.items) }
-    ensures bound { result ≤ length tables.now.entries.items }
+fn count_left_active(lists: &Lists, bucket: u32, id: DestId) -> u64
+    requires { 0 < lists.now.buckets }
+    ensures value { result ≡ active id (without (is_swept (state_of lists.now) bucket) lists.now.entries.items) }
+    ensures bound { result ≤ length lists.now.entries.items }
 {
-    let buckets = tables.buckets;
-    let now = tables.moment;
-    tables
+    let buckets = lists.buckets;
+    let now = lists.moment;
+    lists
         .entries
         .iter()
         .filter(|e| !sweeps(buckets, now, bucket, e))
@@ -72,14 +59,14 @@ fn count_left_active(tables: &Tables, bucket: u32, id: DestId) -> u64
         .count() as u64
 }
 
-fn count_left_inactive(tables: &Tables, bucket: u32, id: DestId) -> u64
-    requires { 0 < tables.now.buckets }
-    ensures value { result ≡ inactive id (without (is_swept (state_of tables.now) bucket) tables.now.entries.items) }
-    ensures bound { result ≤ length tables.now.entries.items }
+fn count_left_inactive(lists: &Lists, bucket: u32, id: DestId) -> u64
+    requires { 0 < lists.now.buckets }
+    ensures value { result ≡ inactive id (without (is_swept (state_of lists.now) bucket) lists.now.entries.items) }
+    ensures bound { result ≤ length lists.now.entries.items }
 {
-    let buckets = tables.buckets;
-    let now = tables.moment;
-    tables
+    let buckets = lists.buckets;
+    let now = lists.moment;
+    lists
         .entries
         .iter()
         .filter(|e| !sweeps(buckets, now, bucket, e))
@@ -88,20 +75,20 @@ fn count_left_inactive(tables: &Tables, bucket: u32, id: DestId) -> u64
 }
 
 /// How many entries name the server once those of the bucket that are due have ended.
-fn count_left(tables: &Tables, bucket: u32, id: DestId) -> u64
-    requires { 0 < tables.now.buckets }
-    ensures { result ≡ total id (without (is_swept (state_of tables.now) bucket) tables.now.entries.items) }
+fn count_left(lists: &Lists, bucket: u32, id: DestId) -> u64
+    requires { 0 < lists.now.buckets }
+    ensures { result ≡ total id (without (is_swept (state_of lists.now) bucket) lists.now.entries.items) }
 {
-    count_left_active(tables, bucket, id) + count_left_inactive(tables, bucket, id)
+    count_left_active(lists, bucket, id) + count_left_inactive(lists, bucket, id)
 }
 
-fn after_sweep(tables: &Tables, bucket: u32, d: &Dest) -> Dest
-    requires { 0 < tables.now.buckets }
-    ensures { result ≡ after_ends (filter (is_swept (state_of tables.now) bucket) tables.now.entries.items) (without (is_swept (state_of tables.now) bucket) tables.now.entries.items) d.now }
+fn after_sweep(lists: &Lists, bucket: u32, due: &[Entry], d: &Dest) -> Dest
+    requires { 0 < lists.now.buckets }
+    ensures { result ≡ after_ends due.now (without (is_swept (state_of lists.now) bucket) lists.now.entries.items) d.now }
 {
-    if is_named_by_swept(tables, bucket, d) {
+    if is_named_by(due, d) {
         Dest {
-            overloaded: relieved(&d.spec, count_left(tables, bucket, d.id), d.overloaded),
+            overloaded: relieved(&d.spec, count_left(lists, bucket, d.id), d.overloaded),
             ..*d
         }
     } else {
@@ -109,13 +96,18 @@ fn after_sweep(tables: &Tables, bucket: u32, d: &Dest) -> Dest
     }
 }
 
-fn list_after_sweep(alloc: Global, tables: &Tables, bucket: u32) -> Result<Vec<Dest>, NoMemory>
-    requires { 0 < tables.now.buckets }
-    ensures { IfOk result (λ v. v.items ≡ map (after_ends (filter (is_swept (state_of tables.now) bucket) tables.now.entries.items) (without (is_swept (state_of tables.now) bucket) tables.now.entries.items)) tables.now.dests.items) }
+fn list_after_sweep(
+    alloc: Global,
+    lists: &Lists,
+    bucket: u32,
+    due: &[Entry],
+) -> Result<Vec<Dest>, NoMemory>
+    requires { 0 < lists.now.buckets }
+    ensures { IfOk result (λ v. v.items ≡ map (after_ends due.now (without (is_swept (state_of lists.now) bucket) lists.now.entries.items)) lists.now.dests.items) }
 {
-    let mut dests = Vec::with_capacity(alloc, tables.dests.len())?;
-    for d in &tables.dests {
-        dests.push(after_sweep(tables, bucket, d))?;
+    let mut dests = Vec::with_capacity(alloc, lists.dests.len())?;
+    for d in &lists.dests {
+        dests.push(after_sweep(lists, bucket, due, d))?;
     }
     Ok(dests)
 }
@@ -127,29 +119,47 @@ fn end_swept(entries: &mut Vec<Entry>, buckets: u32, now: u64, bucket: u32)
     entries.retain(|e| !sweeps(buckets, now, bucket, e));
 }
 
-/// All due entries of the bucket end.
-pub(crate) fn sweep(alloc: Global, tables: &mut Tables, bucket: u32) -> Result<Reply, NoMemory>
-    requires { 0 < tables.old.buckets }
-    ensures ok { IfOk result (λ r. (r, state_of tables.new) ≡ sweep (state_of tables.old) bucket) }
-    ensures err { OnErr result (state_of tables.new ≡ state_of tables.old) }
+/// The due entries of the bucket end, some of them at least.
+fn end_some(alloc: Global, lists: &mut Lists, bucket: u32, due: &[Entry]) -> Result<(), NoMemory>
+    requires buckets { 0 < lists.old.buckets }
+    requires due { due.now ≡ filter (is_swept (state_of lists.old) bucket) lists.old.entries.items }
+    ensures ok { OnOk result (state_of lists.new ≡ (sweep (state_of lists.old) bucket).1) }
+    ensures err { OnErr result (state_of lists.new ≡ state_of lists.old) }
 {
-    let count = count_swept(tables, bucket);
-    let dests = list_after_sweep(alloc, tables, bucket)?;
-    end_swept(&mut tables.entries, tables.buckets, tables.moment, bucket);
-    tables.dests = dests;
-    Ok(Reply::Swept(count))
+    let dests = list_after_sweep(alloc, lists, bucket, due)?;
+    end_swept(&mut lists.entries, lists.buckets, lists.moment, bucket);
+    lists.dests = dests;
+    Ok(())
 }
 
-fn is_finished(tables: &Tables, t: &Template) -> bool
-    ensures { result ≡ is_over (state_of tables.now) t.now }
+/// The due entries of the bucket end. Where there are none, nothing is walked.
+pub(crate) fn end_due(
+    alloc: Global,
+    lists: &mut Lists,
+    bucket: u32,
+    due: &[Entry],
+) -> Result<(), NoMemory>
+    requires buckets { 0 < lists.old.buckets }
+    requires due { due.now ≡ filter (is_swept (state_of lists.old) bucket) lists.old.entries.items }
+    ensures ok { OnOk result (state_of lists.new ≡ (sweep (state_of lists.old) bucket).1) }
+    ensures err { OnErr result (state_of lists.new ≡ state_of lists.old) }
 {
-    t.deadline <= tables.moment && count_controls(&tables.entries, t.id) == 0
+    if due.is_empty() {
+        return Ok(());
+    }
+    end_some(alloc, lists, bucket, due)
 }
 
-fn is_still_held(tables: &Tables, t: &Template) -> bool
-    ensures { result ≡ is_held (state_of tables.now) t.now }
+fn is_finished(lists: &Lists, t: &Template) -> bool
+    ensures { result ≡ is_over (state_of lists.now) t.now }
 {
-    t.deadline <= tables.moment && 0 < count_controls(&tables.entries, t.id)
+    t.deadline <= lists.moment && count_controls(&lists.entries, t.id) == 0
+}
+
+fn is_still_held(lists: &Lists, t: &Template) -> bool
+    ensures { result ≡ is_held (state_of lists.now) t.now }
+{
+    t.deadline <= lists.moment && 0 < count_controls(&lists.entries, t.id)
 }
 
 fn hold_longer(now: u64, t: &Template) -> Template
@@ -162,49 +172,49 @@ fn hold_longer(now: u64, t: &Template) -> Template
     }
 }
 
-fn reaped(tables: &Tables, t: &Template) -> Option<Template>
-    requires { tables.now.moment < 2 ^ 32 }
-    ensures { result ≡ reaped_template (state_of tables.now) t.now }
+fn reaped(lists: &Lists, t: &Template) -> Option<Template>
+    requires { lists.now.moment < 2 ^ 32 }
+    ensures { result ≡ reaped_template (state_of lists.now) t.now }
 {
-    if is_finished(tables, t) {
+    if is_finished(lists, t) {
         None
-    } else if is_still_held(tables, t) {
-        Some(hold_longer(tables.moment, t))
+    } else if is_still_held(lists, t) {
+        Some(hold_longer(lists.moment, t))
     } else {
         Some(*t)
     }
 }
 
-fn list_reaped(alloc: Global, tables: &Tables) -> Result<Vec<Template>, NoMemory>
-    requires { tables.now.moment < 2 ^ 32 }
-    ensures { IfOk result (λ v. v.items ≡ reaped_templates (state_of tables.now)) }
+fn list_reaped(alloc: Global, lists: &Lists) -> Result<Vec<Template>, NoMemory>
+    requires { lists.now.moment < 2 ^ 32 }
+    ensures { IfOk result (λ v. v.items ≡ reaped_templates (state_of lists.now)) }
 {
-    let mut templates = Vec::with_capacity(alloc, tables.templates.len())?;
-    for t in &tables.templates {
-        if let Some(t) = reaped(tables, t) {
+    let mut templates = Vec::with_capacity(alloc, lists.templates.len())?;
+    for t in &lists.templates {
+        if let Some(t) = reaped(lists, t) {
             templates.push(t)?;
         }
     }
     Ok(templates)
 }
 
-fn count_finished(tables: &Tables) -> u64
-    ensures { result ≡ count_by (is_over (state_of tables.now)) tables.now.templates.items }
+fn count_finished(lists: &Lists) -> u64
+    ensures { result ≡ count_by (is_over (state_of lists.now)) lists.now.templates.items }
 {
-    tables
+    lists
         .templates
         .iter()
-        .filter(|t| is_finished(tables, t))
+        .filter(|t| is_finished(lists, t))
         .count() as u64
 }
 
-fn count_held(tables: &Tables) -> u64
-    ensures { result ≡ count_by (is_held (state_of tables.now)) tables.now.templates.items }
+fn count_held(lists: &Lists) -> u64
+    ensures { result ≡ count_by (is_held (state_of lists.now)) lists.now.templates.items }
 {
-    tables
+    lists
         .templates
         .iter()
-        .filter(|t| is_still_held(tables, t))
+        .filter(|t| is_still_held(lists, t))
         .count() as u64
 }
 
@@ -245,18 +255,18 @@ fn list_kept(
 
 /// Due templates leave or are held longer, and then the servers in the trash that nothing names are
 /// released.
-pub(crate) fn reap(alloc: Global, tables: &mut Tables) -> Result<Reply, NoMemory>
-    requires { tables.old.moment < 2 ^ 32 }
-    ensures ok { IfOk result (λ r. (r, state_of tables.new) ≡ reap (state_of tables.old)) }
-    ensures err { OnErr result (state_of tables.new ≡ state_of tables.old) }
+pub(crate) fn reap(alloc: Global, lists: &mut Lists) -> Result<Reply, NoMemory>
+    requires { lists.old.moment < 2 ^ 32 }
+    ensures ok { IfOk result (λ r. (r, state_of lists.new) ≡ reap (state_of lists.old)) }
+    ensures err { OnErr result (state_of lists.new ≡ state_of lists.old) }
 {
-    let gone = count_finished(tables);
-    let renewed = count_held(tables);
-    let templates = list_reaped(alloc, tables)?;
-    let servers = count_free(&tables.entries, &templates, &tables.dests);
-    let dests = list_kept(alloc, &tables.entries, &templates, &tables.dests)?;
-    tables.templates = templates;
-    tables.dests = dests;
+    let gone = count_finished(lists);
+    let renewed = count_held(lists);
+    let templates = list_reaped(alloc, lists)?;
+    let servers = count_free(&lists.entries, &templates, &lists.dests);
+    let dests = list_kept(alloc, &lists.entries, &templates, &lists.dests)?;
+    lists.templates = templates;
+    lists.dests = dests;
     Ok(Reply::Reaped {
         templates: gone,
         renewed,

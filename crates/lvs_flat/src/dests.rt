@@ -5,13 +5,14 @@ ghost use Rattle.lvs_types.specs.declared.dest.Dest.{Dest};
 ghost use Rattle.lvs_model.specs.Lookups.{dest_at, has_dest_id, is_server_of, is_server_at, servers_of};
 ghost use Rattle.lvs_model.specs.Counts.{is_eligible, candidate_of, candidates, refs, total};
 ghost use Rattle.lvs_model.specs.Binding.{serves_at, count_bound, count_ended};
-ghost use Rattle.lvs_flat.specs.Views.{dest_in, dests_in, entries_in};
-ghost use Rattle.lvs_model.specs.Overload.{is_reached, is_relieved, overload_bound, overload_ended};
+ghost use Rattle.lvs_rules.specs.Views.{dest_in, dests_in, entries_in};
+ghost use Rattle.lvs_model.specs.Overload.{overload_bound, overload_ended};
 
 use crate::entries::count_total;
 use crate::templates::count_naming;
-use crate::view::{View, count_active_in, count_inactive_in, seen};
-use lvs_types::{Addr, Candidate, Dest, DestId, DestSpec, Entry, ServiceKey, Template};
+use crate::view::{count_active_in, count_inactive_in, seen};
+use lvs_rules::{View, reaches, relieved};
+use lvs_types::{Addr, Candidate, Dest, DestId, Entry, ServiceKey, Template};
 
 /// The server of an id, live or in the trash.
 pub(crate) fn get_dest(dests: &[Dest], id: DestId) -> Option<Dest>
@@ -82,7 +83,7 @@ pub(crate) fn find_serving(
     None
 }
 
-fn candidate(entries: &[Entry], d: &Dest, ended: Option<u64>) -> Candidate
+fn candidate(entries: &[Entry], d: &Dest, ended: Option<Entry>) -> Candidate
     ensures { result ≡ candidate_of (entries_in ended entries.now) d.now }
 {
     Candidate {
@@ -95,8 +96,8 @@ fn candidate(entries: &[Entry], d: &Dest, ended: Option<u64>) -> Candidate
 }
 
 /// The server as a scheduler sees it in the view.
-fn candidate_in(entries: &[Entry], d: &Dest, view: View) -> Candidate
-    ensures { result ≡ candidate_of (entries_in view.ended entries.now) (dest_in view.overload d.now) }
+fn candidate_in(entries: &[Entry], d: &Dest, view: &View) -> Candidate
+    ensures { result ≡ candidate_of (entries_in view.now.ended entries.now) (dest_in view.now.overload d.now) }
 {
     candidate(entries, &seen(d, view.overload), view.ended)
 }
@@ -107,11 +108,11 @@ pub(crate) fn list_candidates(
     dests: &[Dest],
     entries: &[Entry],
     key: ServiceKey,
-    view: View,
+    view: &View,
 )
     requires empty { found.old.items ≡ [] }
     requires room { length dests.now ≤ vec_capacity found.old }
-    ensures { found.new.items ≡ candidates key (dests_in view.overload dests.now) (entries_in view.ended entries.now) }
+    ensures { found.new.items ≡ candidates key (dests_in view.now.overload dests.now) (entries_in view.now.ended entries.now) }
 {
     for d in dests {
         if is_live_of(&seen(d, view.overload), key) {
@@ -121,14 +122,13 @@ pub(crate) fn list_candidates(
 }
 
 /// The servers' addresses, in a list that has room for them.
-pub(crate) fn list_addrs(addrs: &mut Vec<Addr>, dests: &[Dest], key: ServiceKey, view: View)
+pub(crate) fn list_addrs(addrs: &mut Vec<Addr>, dests: &[Dest], key: ServiceKey)
     requires empty { addrs.old.items ≡ [] }
     requires room { length dests.now ≤ vec_capacity addrs.old }
-    ensures { addrs.new.items ≡ map (λ (d : Dest). d.spec.addr) (servers_of key (dests_in view.overload dests.now)) }
+    ensures { addrs.new.items ≡ map (λ (d : Dest). d.spec.addr) (servers_of key dests.now) }
 {
     for d in dests {
-        let d = seen(d, view.overload);
-        if is_live_of(&d, key) {
+        if is_live_of(d, key) {
             addrs.push_reserved(d.spec.addr);
         }
     }
@@ -136,15 +136,14 @@ pub(crate) fn list_addrs(addrs: &mut Vec<Addr>, dests: &[Dest], key: ServiceKey,
 
 /// The server at a place among those of a service.
 #[tactic(auto, using(crate::proofs::Leaving::later_place))]
-pub(crate) fn find_nth(dests: &[Dest], key: ServiceKey, place: usize, view: View) -> Option<Dest>
-    ensures { result ≡ slice_get (servers_of key (dests_in view.overload dests.now)) place }
+pub(crate) fn find_nth(dests: &[Dest], key: ServiceKey, place: usize) -> Option<Dest>
+    ensures { result ≡ slice_get (servers_of key dests.now) place }
 {
     let mut before = place;
     for d in dests {
-        let d = seen(d, view.overload);
-        if is_live_of(&d, key) {
+        if is_live_of(d, key) {
             if before == 0 {
-                return Some(d);
+                return Some(*d);
             }
             before -= 1;
         }
@@ -157,29 +156,6 @@ pub(crate) fn count_refs(entries: &[Entry], templates: &[Template], id: DestId) 
     ensures { result ≡ refs id entries.now templates.now }
 {
     u128::from(count_total(entries, id)) + u128::from(count_naming(templates, id))
-}
-
-/// Whether so many connections reach the upper threshold, where there is one.
-pub(crate) fn reaches(spec: &DestSpec, total: u64) -> bool
-    ensures { result ≡ is_reached spec.now total }
-{
-    0 < spec.upper && u64::from(spec.upper) <= total
-}
-
-/// Whether so many connections are few enough.
-fn relieves(spec: &DestSpec, total: u64) -> bool
-    ensures { result ≡ is_relieved spec.now total }
-{
-    spec.upper == 0
-        || (0 < spec.lower && total < u64::from(spec.lower))
-        || (spec.lower == 0 && 0 < spec.upper && 4 * u128::from(total) < 3 * u128::from(spec.upper))
-}
-
-/// The overload after entries that named the server were ended, of which so many stay.
-pub(crate) fn relieved(spec: &DestSpec, total: u64, before: bool) -> bool
-    ensures { result ≡ overload_ended spec.now total before }
-{
-    if relieves(spec, total) { false } else { before }
 }
 
 fn place_of(dests: &[Dest], id: DestId) -> Option<usize>

@@ -1,12 +1,11 @@
 //! Look-ups, counts and edits of the entries.
-ghost use Rattle.std.specs.Prelude.{◌≡◌, ◌≤◌, ◌+◌, not, ◌&&◌, length, count_by, vec_len, vec_capacity, IfSome};
-ghost use Rattle.std.specs.List.{find, filter, list_any, position, AllByRecursion};
+ghost use Rattle.std.specs.Prelude.{◌≡◌, ◌≤◌, ◌+◌, ◌*◌, not, ◌&&◌, length, count_by, vec_len, vec_capacity};
+ghost use Rattle.std.specs.List.{find, filter, list_any, position};
 ghost use Rattle.lvs_types.specs.declared.entry.Entry.{Entry};
 ghost use Rattle.lvs_model.specs.Lists.{without, least_by};
 ghost use Rattle.lvs_model.specs.Lookups.{entry_at, has_entry_id, is_reply_of, reply_entry};
 ghost use Rattle.lvs_model.specs.Binding.{put_entry};
 ghost use Rattle.lvs_flat.specs.Least.{older};
-ghost use Rattle.lvs_flat.specs.Bounds.{HasFewPackets};
 ghost use Rattle.lvs_model.specs.Counts.{active, inactive, counts_active, counts_inactive, total, controls, is_made_by};
 
 use lvs_states::is_active;
@@ -14,8 +13,7 @@ use lvs_types::{Addr, DestId, Entry, Key, Method, Proto, TemplateId};
 
 /// The entry of a key.
 pub(crate) fn find_key(entries: &[Entry], key: &Key) -> Option<Entry>
-    ensures found { result ≡ entry_at key.now entries.now }
-    ensures packets { AllByRecursion HasFewPackets entries.now → IfSome result HasFewPackets }
+    ensures { result ≡ entry_at key.now entries.now }
 {
     for e in entries {
         if e.key == *key {
@@ -112,6 +110,15 @@ pub(crate) fn count_inactive_without(entries: &[Entry], entry: u64, id: DestId) 
         .iter()
         .filter(|e| e.id != entry && (e.server == Some(id) && !is_active(e.state)))
         .count() as u64
+}
+
+/// How many entries but one name the server.
+#[tactic(auto, using(crate::proofs::Leaving::count_without))]
+pub(crate) fn count_others(entries: &[Entry], entry: u64, id: DestId) -> u64
+    ensures value { result ≡ total id (without (has_entry_id entry) entries.now) }
+    ensures bound { result ≤ 2 * length entries.now }
+{
+    count_active_without(entries, entry, id) + count_inactive_without(entries, entry, id)
 }
 
 /// How many entries name the server.

@@ -2,32 +2,28 @@
 ghost use Rattle.std.specs.Prelude.{◌≡◌, ◌<◌, ◌≤◌, ◌+◌, ◌^◌, IfOk, OnErr, OnOk};
 ghost use Rattle.lvs_model.specs.Messages.{HasOldFlags};
 ghost use Rattle.std.specs.List.{AllByRecursion};
-ghost use Rattle.lvs_flat.specs.Tables.{state_of};
-ghost use Rattle.lvs_flat.specs.Bounds.{HasHeadroom};
-ghost use Rattle.lvs_flat.specs.TooLong.{HaveDistinctIds};
+ghost use Rattle.lvs_flat.specs.Lists.{state_of};
+ghost use Rattle.lvs_rules.specs.Bounds.{HasHeadroom};
+ghost use Rattle.lvs_rules.specs.TooLong.{HaveDistinctIds};
 ghost use Rattle.lvs_model.specs.Snapshots.{snapshot_of};
 ghost use Rattle.lvs_model.specs.State.{initial};
 ghost use Rattle.lvs_model.specs.Step.{step, IsInRange};
 ghost use Rattle.lvs_model.specs.Counted.{IsCounted};
 ghost use Rattle.lvs_model.specs.WellFormed.{IsWellFormed};
 
-use crate::clock::{reap, sweep, tick};
-use crate::edits::{edit, set};
-use crate::incoming::handle_incoming;
-use crate::learning::learn;
-use crate::outgoing::handle_outgoing;
-use crate::sending::send_pending;
+use crate::lists::Lists;
+use crate::looking::look_up;
 use crate::snapshot::show;
-use crate::tables::Tables;
+use lvs_rules::take_item;
 use lvs_types::{Addr, Item, NoMemory, Reply, Snapshot};
 use std::alloc::Global;
-use std::marker::Model;
+use std::marker::{Brand, Model};
 
 /// The director over flat lists, which a contract sees as its state and the number of steps that it
 /// has taken.
 #[derive(Drop)]
 pub struct Flat {
-    tables: Tables,
+    lists: Lists,
     steps: u64,
 }
 
@@ -36,35 +32,27 @@ impl Model for Flat {
 
     ghost Value = { FlatSeen };
 
-    ghost use Rattle.lvs_flat.specs.Tables.{state_of};
+    ghost use Rattle.lvs_flat.specs.Lists.{state_of};
     ghost use Rattle.lvs_model.specs.Counted.{IsCounted};
     ghost use Rattle.lvs_model.specs.WellFormed.{IsWellFormed};
 
-    ghost view = { λ f. record { state = state_of f.tables; steps = f.steps } };
+    ghost view = { λ f. record { state = state_of f.lists; steps = f.steps } };
 
-    ghost invariant = { λ f. IsCounted f.steps (state_of f.tables) × IsWellFormed (state_of f.tables) };
+    ghost invariant = { λ f. IsCounted f.steps (state_of f.lists) × IsWellFormed (state_of f.lists) };
 }
 
-fn take_item(alloc: Global, tables: &mut Tables, item: &Item) -> Result<Reply, NoMemory>
-    requires room { HasHeadroom (state_of tables.old) }
-    requires buckets { 0 < tables.old.buckets }
-    requires apart { HaveDistinctIds (state_of tables.old) }
-    requires pending { AllByRecursion HasOldFlags tables.old.pending.items }
-    ensures ok { IfOk result (λ r. (r, state_of tables.new) ≡ step (state_of tables.old) item.now) }
-    ensures err { OnErr result (state_of tables.new ≡ state_of tables.old) }
+/// The item is looked up, and the rules take it from there.
+#[tactic(auto, using(crate::proofs::Given::all_given))]
+fn take(alloc: Global, lists: &mut Lists, item: &Item) -> Result<Reply, NoMemory>
+    requires room { HasHeadroom (state_of lists.old) }
+    requires buckets { 0 < lists.old.buckets }
+    requires apart { HaveDistinctIds (state_of lists.old) }
+    requires pending { AllByRecursion HasOldFlags lists.old.pending.items }
+    ensures ok { IfOk result (λ r. (r, state_of lists.new) ≡ step (state_of lists.old) item.now) }
+    ensures err { OnErr result (state_of lists.new ≡ state_of lists.old) }
 {
-    match item {
-        Item::Incoming { mark, bytes } => handle_incoming(alloc, tables, *mark, bytes.as_slice()),
-        Item::Outgoing { bytes } => handle_outgoing(alloc, tables, bytes.as_slice()),
-        Item::Edit(command) => edit(alloc, tables, command),
-        Item::Set(setting) => Ok(set(tables, setting)),
-        Item::Learn { sync_id, item } => learn(tables, *sync_id, item),
-        Item::BadSync(why) => Ok(Reply::BadMessage(*why)),
-        Item::Tick(moment) => Ok(tick(tables, *moment)),
-        Item::Sweep(bucket) => sweep(alloc, tables, *bucket),
-        Item::Reap => reap(alloc, tables),
-        Item::SendSync => send_pending(alloc, tables),
-    }
+    let found = look_up(alloc, lists, item)?;
+    take_item::<Brand, Lists>(alloc, lists, item, &found)
 }
 
 impl Flat {
@@ -77,7 +65,7 @@ impl Flat {
         ensures steps { IfOk result (λ f. f.steps ≡ 0) }
     {
         Ok(Flat {
-            tables: Tables::empty(alloc, local, buckets),
+            lists: Lists::empty(alloc, local, buckets),
             steps: 0,
         })
     }
@@ -94,7 +82,7 @@ impl Flat {
         ensures shown { IfOk result (λ s. s ≡ snapshot_of self.now.state) }
         ensures well_formed { IsWellFormed self.now.state }
     {
-        show(alloc, &self.tables)
+        show(alloc, &self.lists)
     }
 
     /// Takes an item: the definition's reply, and the definition's next state. For want of memory
@@ -106,7 +94,7 @@ impl Flat {
         ensures steps { OnOk result (self.new.steps ≡ self.old.steps + 1) }
         ensures err { OnErr result (self.new ≡ self.old) }
     {
-        let reply = take_item(alloc, &mut self.tables, item)?;
+        let reply = take(alloc, &mut self.lists, item)?;
         self.steps += 1;
         Ok(reply)
     }

@@ -5,7 +5,7 @@ ghost use Rattle.lvs_model.specs.Lookups.{is_server_of, has_dest_id};
 ghost use Rattle.lvs_model.specs.Edits.{trashed, leaving, remove_dests};
 
 use crate::dests::count_refs;
-use crate::tables::Tables;
+use crate::lists::Lists;
 use lvs_types::{Dest, DestId, Entry, NoMemory, ServiceKey, Template};
 use std::alloc::Global;
 
@@ -32,18 +32,18 @@ fn leave(d: &Dest, leaves: bool, entries: &[Entry], templates: &[Template]) -> O
 /// The servers once those of a service have left.
 pub(crate) fn keep_after_service(
     alloc: Global,
-    tables: &Tables,
+    lists: &Lists,
     key: ServiceKey,
 ) -> Result<Vec<Dest>, NoMemory>
-    ensures { IfOk result (λ v. v.items ≡ remove_dests (is_server_of key) tables.now.entries.items tables.now.templates.items tables.now.dests.items) }
+    ensures { IfOk result (λ v. v.items ≡ remove_dests (is_server_of key) lists.now.entries.items lists.now.templates.items lists.now.dests.items) }
 {
-    let mut kept = Vec::with_capacity(alloc, tables.dests.len())?;
-    for d in &tables.dests {
+    let mut kept = Vec::with_capacity(alloc, lists.dests.len())?;
+    for d in &lists.dests {
         if let Some(d) = leave(
             d,
             d.live && d.service == key,
-            &tables.entries,
-            &tables.templates,
+            &lists.entries,
+            &lists.templates,
         ) {
             kept.push(d)?;
         }
@@ -52,12 +52,12 @@ pub(crate) fn keep_after_service(
 }
 
 /// The servers once all have left.
-pub(crate) fn keep_after_clear(alloc: Global, tables: &Tables) -> Result<Vec<Dest>, NoMemory>
-    ensures { IfOk result (λ v. v.items ≡ remove_dests (λ (d : Dest). d.live) tables.now.entries.items tables.now.templates.items tables.now.dests.items) }
+pub(crate) fn keep_after_clear(alloc: Global, lists: &Lists) -> Result<Vec<Dest>, NoMemory>
+    ensures { IfOk result (λ v. v.items ≡ remove_dests (λ (d : Dest). d.live) lists.now.entries.items lists.now.templates.items lists.now.dests.items) }
 {
-    let mut kept = Vec::with_capacity(alloc, tables.dests.len())?;
-    for d in &tables.dests {
-        if let Some(d) = leave(d, d.live, &tables.entries, &tables.templates) {
+    let mut kept = Vec::with_capacity(alloc, lists.dests.len())?;
+    for d in &lists.dests {
+        if let Some(d) = leave(d, d.live, &lists.entries, &lists.templates) {
             kept.push(d)?;
         }
     }
@@ -67,14 +67,14 @@ pub(crate) fn keep_after_clear(alloc: Global, tables: &Tables) -> Result<Vec<Des
 /// The servers once the one of an id has left.
 pub(crate) fn keep_after_server(
     alloc: Global,
-    tables: &Tables,
+    lists: &Lists,
     id: DestId,
 ) -> Result<Vec<Dest>, NoMemory>
-    ensures { IfOk result (λ v. v.items ≡ remove_dests (has_dest_id id) tables.now.entries.items tables.now.templates.items tables.now.dests.items) }
+    ensures { IfOk result (λ v. v.items ≡ remove_dests (has_dest_id id) lists.now.entries.items lists.now.templates.items lists.now.dests.items) }
 {
-    let mut kept = Vec::with_capacity(alloc, tables.dests.len())?;
-    for d in &tables.dests {
-        if let Some(d) = leave(d, d.id == id, &tables.entries, &tables.templates) {
+    let mut kept = Vec::with_capacity(alloc, lists.dests.len())?;
+    for d in &lists.dests {
+        if let Some(d) = leave(d, d.id == id, &lists.entries, &lists.templates) {
             kept.push(d)?;
         }
     }

@@ -5,7 +5,7 @@ ghost use Rattle.lvs_types.specs.declared.dest.Dest.{Dest};
 ghost use Rattle.lvs_types.specs.declared.entry.Entry.{Entry};
 ghost use Rattle.lvs_types.specs.declared.service.Service.{Service};
 ghost use Rattle.lvs_types.specs.declared.template.Template.{Template};
-ghost use Rattle.lvs_flat.specs.Tables.{state_of};
+ghost use Rattle.lvs_flat.specs.Lists.{state_of};
 ghost use Rattle.lvs_model.specs.Lists.{sorted_by};
 ghost use Rattle.lvs_model.specs.Lookups.{servers_of};
 ghost use Rattle.lvs_model.specs.Counts.{row_of};
@@ -13,7 +13,7 @@ ghost use Rattle.lvs_model.specs.Snapshots.{shown_dests, snapshot_of};
 
 use crate::dests::is_live_of;
 use crate::entries::{count_active, count_inactive};
-use crate::tables::Tables;
+use crate::lists::Lists;
 use crate::templates::count_naming;
 use lvs_types::{Dest, DestRow, Entry, Listed, NoMemory, Service, ServiceKey, Snapshot, Template};
 use std::alloc::Global;
@@ -116,22 +116,22 @@ fn list_rows(
 }
 
 /// All that the director keeps, in the order in which listings show it.
-pub(crate) fn show(alloc: Global, tables: &Tables) -> Result<Snapshot, NoMemory>
-    ensures { IfOk result (λ s. s ≡ snapshot_of (state_of tables.now)) }
+pub(crate) fn show(alloc: Global, lists: &Lists) -> Result<Snapshot, NoMemory>
+    ensures { IfOk result (λ s. s ≡ snapshot_of (state_of lists.now)) }
 {
-    let dests = list_shown(alloc, &tables.services, &tables.dests)?;
-    let rows = list_rows(alloc, &tables.entries, &tables.templates, &dests)?;
-    let templates = sort_templates(tables.templates.to_vec(alloc)?)?;
-    let entries = sort_entries(tables.entries.to_vec(alloc)?)?;
+    let dests = list_shown(alloc, &lists.services, &lists.dests)?;
+    let rows = list_rows(alloc, &lists.entries, &lists.templates, &dests)?;
+    let templates = sort_templates(lists.templates.to_vec(alloc)?)?;
+    let entries = sort_entries(lists.entries.to_vec(alloc)?)?;
     Ok(Snapshot {
-        now: tables.moment,
-        local: tables.local,
-        settings: tables.settings,
-        daemons: tables.daemons,
-        services: Listed::from_vec(tables.services.to_vec(alloc)?),
+        now: lists.moment,
+        local: lists.local,
+        settings: lists.settings,
+        daemons: lists.daemons,
+        services: Listed::from_vec(lists.services.to_vec(alloc)?),
         dests: Listed::from_vec(rows),
         templates: Listed::from_vec(templates),
         entries: Listed::from_vec(entries),
-        pending: Listed::from_vec(tables.pending.to_vec(alloc)?),
+        pending: Listed::from_vec(lists.pending.to_vec(alloc)?),
     })
 }

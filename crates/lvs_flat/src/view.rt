@@ -1,32 +1,11 @@
 //! The tables as they are, or as they would be once an entry had ended.
 ghost use Rattle.std.specs.Prelude.{◌≡◌, ◌≤◌, length};
 ghost use Rattle.lvs_model.specs.Counts.{active, inactive};
-ghost use Rattle.lvs_flat.specs.Views.{dest_in, entries_in};
+ghost use Rattle.lvs_rules.specs.Views.{dest_in, entries_in};
 
 use crate::entries::{count_active, count_active_without, count_inactive, count_inactive_without};
+use lvs_rules::Overload;
 use lvs_types::{Dest, DestId, Entry};
-
-/// A server and whether it would be overloaded.
-#[derive(Clone, Copy)]
-pub(crate) struct Overload {
-    pub server: DestId,
-    pub overloaded: bool,
-}
-
-/// How a scheduler looks at the tables.
-#[derive(Clone, Copy)]
-pub(crate) struct View {
-    /// The id of the entry that is looked at as if it had ended.
-    pub ended: Option<u64>,
-    /// What would then hold of its server.
-    pub overload: Option<Overload>,
-}
-
-/// The tables as they are.
-pub(crate) const AS_THEY_ARE: View = View {
-    ended: None,
-    overload: None,
-};
 
 /// The server as it would be.
 pub(crate) fn seen(d: &Dest, overload: Option<Overload>) -> Dest
@@ -48,23 +27,23 @@ pub(crate) fn seen(d: &Dest, overload: Option<Overload>) -> Dest
 }
 
 /// How many entries would name the server in state Established.
-pub(crate) fn count_active_in(entries: &[Entry], ended: Option<u64>, id: DestId) -> u64
+pub(crate) fn count_active_in(entries: &[Entry], ended: Option<Entry>, id: DestId) -> u64
     ensures value { result ≡ active id (entries_in ended entries.now) }
     ensures bound { result ≤ length entries.now }
 {
     match ended {
         None => count_active(entries, id),
-        Some(entry) => count_active_without(entries, entry, id),
+        Some(e) => count_active_without(entries, e.id, id),
     }
 }
 
 /// How many would name it in another state.
-pub(crate) fn count_inactive_in(entries: &[Entry], ended: Option<u64>, id: DestId) -> u64
+pub(crate) fn count_inactive_in(entries: &[Entry], ended: Option<Entry>, id: DestId) -> u64
     ensures value { result ≡ inactive id (entries_in ended entries.now) }
     ensures bound { result ≤ length entries.now }
 {
     match ended {
         None => count_inactive(entries, id),
-        Some(entry) => count_inactive_without(entries, entry, id),
+        Some(e) => count_inactive_without(entries, e.id, id),
     }
 }

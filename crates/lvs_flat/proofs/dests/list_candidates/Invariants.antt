@@ -1,6 +1,6 @@
 use Rattle.std.proofs.Common.{◌≡◌, ◌≤◌, ◌++◌, drop, length, vec_len, vec_capacity}
 use Rattle.lvs_model.specs.Counts.{candidates}
-use Rattle.lvs_flat.specs.Views.{dests_in, entries_in}
+use Rattle.lvs_rules.specs.Views.{dests_in, entries_in}
 use Rattle.lvs_flat.proofs.dests.list_candidates.Given as goal
 
 abbrev pub invariant-loop-d : goal.invariant-loop-d

@@ -1,7 +1,0 @@
-use Rattle.std.proofs.Common.{◌≡◌, drop, None}
-use Rattle.lvs_model.specs.Lookups.{servers_of}
-use Rattle.lvs_model.specs.Edits.{server_before}
-use Rattle.lvs_flat.proofs.server_edits.find_before.Given as goal
-
-abbrev pub invariant-loop-d : goal.invariant-loop-d
-invariant-loop-d l = server_before l.id l.previous (servers_of l.key (drop l.d-index l.dests)) ≡ server_before l.id None (servers_of l.key l.dests)
