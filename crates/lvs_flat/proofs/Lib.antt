@@ -1,5 +1,4 @@
 pub mod Updates
-pub mod Least
 pub mod Leaving
 pub mod Ordered
 pub mod Given

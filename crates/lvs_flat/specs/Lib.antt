@@ -1,4 +1,3 @@
 pub mod Lists
-pub mod Least
 pub mod Servers
 pub mod Seen

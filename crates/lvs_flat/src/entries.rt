@@ -5,7 +5,6 @@ ghost use Rattle.lvs_types.specs.declared.entry.Entry.{Entry};
 ghost use Rattle.lvs_model.specs.Lists.{without, least_by};
 ghost use Rattle.lvs_model.specs.Lookups.{entry_at, has_entry_id, is_reply_of, reply_entry};
 ghost use Rattle.lvs_model.specs.Binding.{put_entry};
-ghost use Rattle.lvs_flat.specs.Least.{older};
 ghost use Rattle.lvs_model.specs.Counts.{active, inactive, counts_active, counts_inactive, total, controls, is_made_by};
 
 use lvs_states::is_active;
@@ -21,51 +20,6 @@ pub(crate) fn find_key(entries: &[Entry], key: &Key) -> Option<Entry>
         }
     }
     None
-}
-
-/// The two sides of a masqueraded connection: the real server's and the client's.
-#[derive(Drop)]
-pub(crate) struct ReplySides {
-    pub proto: Proto,
-    pub daddr: Addr,
-    pub dport: u16,
-    pub caddr: Addr,
-    pub cport: u16,
-}
-
-fn is_reply(sides: &ReplySides, e: &Entry) -> bool
-    ensures { result ≡ is_reply_of sides.now.proto sides.now.daddr sides.now.dport sides.now.caddr sides.now.cport e.now }
-{
-    e.method == Method::Masq
-        && e.key.proto == sides.proto
-        && e.daddr == sides.daddr
-        && e.dport == sides.dport
-        && e.key.caddr == sides.caddr
-        && e.key.cport == sides.cport
-}
-
-/// Of the least one so far and the next one that with the lower id, the first one where they agree.
-fn lower(least: Option<Entry>, next: &Entry) -> Entry
-    ensures { result ≡ older least next.now }
-{
-    match least {
-        None => *next,
-        Some(e) => { if e.id <= next.id { e } else { *next } }
-    }
-}
-
-/// The entry of a reply: of the masqueraded connections between the two sides the one of least id.
-#[tactic(auto, using(crate::proofs::Least::lead_more))]
-pub(crate) fn find_reply(entries: &[Entry], sides: &ReplySides) -> Option<Entry>
-    ensures { result ≡ reply_entry sides.now.proto sides.now.daddr sides.now.dport sides.now.caddr sides.now.cport entries.now }
-{
-    let mut least = None;
-    for e in entries {
-        if is_reply(sides, e) {
-            least = Some(lower(least, e));
-        }
-    }
-    least
 }
 
 /// How many entries name the server in state Established.

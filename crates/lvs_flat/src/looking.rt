@@ -9,10 +9,11 @@ ghost use Rattle.lvs_model.specs.Clock.{is_swept};
 ghost use Rattle.lvs_flat.specs.Lists.{state_of};
 
 use crate::clock::list_due;
-use crate::entries::{ReplySides, find_key, find_reply};
+use crate::entries::find_key;
 use crate::lists::Lists;
 use lvs_headers::read_packet;
-use lvs_rules::{is_of_template, key_in_record, key_of_packet};
+use lvs_keys::{ReplySides, find_reply, key_of_packet};
+use lvs_rules::{is_of_template, key_in_record};
 use lvs_types::{Entry, Found, Head, Item, Listed, NoMemory, Proto, SyncItem, SyncRecord};
 use std::alloc::Global;
 
@@ -54,7 +55,7 @@ fn find_outgoing(entries: &[Entry], bytes: &[u8]) -> Option<Entry>
     let head = packet.head();
     match head.transport() {
         None => None,
-        Some(proto) => find_reply(entries, &sides_of(proto, &head)),
+        Some(proto) => find_reply(entries, &sides_of(proto, &head)).copied(),
     }
 }
 

@@ -1,21 +1,8 @@
 //! What the rules ask of a packet's headers.
 ghost use Rattle.std.specs.Prelude.{◌≡◌};
-ghost use Rattle.lvs_model.specs.Packets.{key_of, is_syn_of, may_connect};
+ghost use Rattle.lvs_model.specs.Packets.{is_syn_of, may_connect};
 
-use lvs_types::{Head, Key, Proto, Settings};
-
-/// The key of an incoming packet: its source is the client.
-pub fn key_of_packet(proto: Proto, head: &Head) -> Key
-    ensures { result ≡ key_of proto head.now }
-{
-    Key {
-        proto,
-        caddr: head.src,
-        cport: head.sport,
-        vaddr: head.dst,
-        vport: head.dport,
-    }
-}
+use lvs_types::{Head, Proto, Settings};
 
 /// Whether it is TCP with SYN and without RST.
 pub(crate) fn is_syn(proto: Proto, head: &Head) -> bool

@@ -25,7 +25,6 @@ mod view;
 
 pub use binding::bound;
 pub use director::take_item;
-pub use headers::key_of_packet;
 pub use learning::{is_of_template, key_in_record};
 pub use overload::{reaches, relieved};
 pub use tables::{Tables, Whole};

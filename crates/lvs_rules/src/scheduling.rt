@@ -12,12 +12,12 @@ ghost use Rattle.lvs_model.specs.Pick.{pick};
 ghost use Rattle.lvs_model.specs.Scheduling.{connection_port, mark_of, state_before, new_entry, enter, is_one_packet, connect_to, new_template, replace_template, take_pick, with_cursor, pick_at, picked, schedule};
 
 use crate::forwarding::{direction_of, forward, push_records, put_in_state, state_then};
-use crate::headers::key_of_packet;
 use crate::packet::{Packet, Rooms, ServerLists};
 use crate::persistence::key_for;
 use crate::pick::pick_server;
 use crate::tables::{Tables, Whole};
 use crate::view::{AS_THEY_ARE, View};
+use lvs_keys::key_of_packet;
 use lvs_types::{
     Addr, Candidate, Cursor, Dest, DropCause, Entry, Head, Proto, Reply, Service, ServiceKey,
     TcpState, Template, TemplateId, TemplateKey,
