@@ -10,6 +10,7 @@ use Rattle.std.proofs.lemmas.Cmp.{nat_cmp_total, eq_by_cmp_equiv}
 use Rattle.std.proofs.lemmas.Map.{lookup-set_value, keys-set_value}
 use Rattle.lvs_types.specs.declared.addr.TemplateId.{TemplateId}
 use Rattle.lvs_types.specs.declared.template.TemplateKey.{TemplateKey}
+use Rattle.lvs_types.specs.declared.template.Template.{Template}
 use Rattle.lvs_model.specs.Same.{template_id_eq}
 use Rattle.lvs_templates.specs.declared.row.TemplateRow.{TemplateRow}
 use Rattle.lvs_templates.specs.Rows.{has_key, has_id, insert_row, replace_row, recount}
@@ -210,3 +211,21 @@ known_id id key es ids store None is free some = absurd (cc)
 known_id id key es ids store (Some row) is free some =
     let led : id_at ids key ≡ Some id.0 = subst (λ (k : TemplateKey). id_at ids k ≡ Some id.0) free (store.tied.rows id.0 row is) in
     (row, sym (find_key key id.0 es ids store led) ∙ is, store.tied.ids id.0 row is)
+
+-- a row of the same template in the place of one
+pub store_same_template : (n : ℕ) (row row' : TemplateRow) (es es' : List (ℕ × TemplateRow)) (ids : List (TemplateKey × ℕ)) → IsStore es ids → row_at es n ≡ Some row → row'.template ≡ row.template → es' ≡ set_value (is_at (nat_cmp n)) es row' → IsStore es' ids
+store_same_template n row row' es es' ids store was same is =
+    let own : row.template.id.0 ≡ n = store.tied.ids n row was in
+    let own' : row'.template.id.0 ≡ n = ap (λ (t : Template). t.id.0) same ∙ own in
+    let under : row_at es row'.template.id.0 ≡ Some row = ap (row_at es) own' ∙ was in
+    let there : IsSomeAnd (find (has_id row'.template.id) (values_of es)) (λ other. other.template.key ≡ row'.template.key) =
+    subst (λ (o : Option TemplateRow). IsSomeAnd o (λ other. other.template.key ≡ row'.template.key)) (sym under ∙ find_id row'.template.id es ids store) (ap (λ (t : Template). t.key) (sym same)) in
+    store_over row' es es' ids store there (is ∙ ap (λ (k : ℕ). set_value (is_at (nat_cmp k)) es row') (sym own'))
+
+-- the id of a row without a key is that of no row
+pub new_row_id : (row : TemplateRow) (es : List (ℕ × TemplateRow)) (ids : List (TemplateKey × ℕ)) → IsStore es ids → IfSome (find (has_id row.template.id) (values_of es)) (λ other. other.template.key ≡ row.template.key) → find (has_key row.template.key) (values_of es) ≡ None → find (has_id row.template.id) (values_of es) ≡ None
+new_row_id row es ids store free none = sym (find_id row.template.id es ids store) ∙ new_id row es ids store free none
+
+pub moved_row_id : (row : TemplateRow) (old : TemplateId) (es : List (ℕ × TemplateRow)) (ids : List (TemplateKey × ℕ)) → IsStore es ids → IsSomeAnd (find (has_key row.template.key) (values_of es)) (λ other. other.template.id ≡ old)
+    → IfSome (find (has_id row.template.id) (values_of es)) (λ other. other.template.key ≡ row.template.key) → template_id_eq row.template.id old ≡ false → find (has_id row.template.id) (values_of es) ≡ None
+moved_row_id row old es ids store there free differ = sym (find_id row.template.id es ids store) ∙ moved_id row old es ids store there free differ

@@ -1,7 +1,10 @@
 pub mod Keys
 pub mod Lists
 pub mod Tied
+pub mod InOrder
 pub mod Store
+pub mod Gathered
+pub mod Entered
 pub mod Changes
 pub mod Leaving
 pub mod Put

@@ -1,11 +1,14 @@
--- The two maps of a store, and what ties them: the rows by id, and the ids by key.
-use Rattle.std.specs.Prelude.{◌≡◌, ℕ, Bool, cond, List, Option, Some}
+-- The two maps of a store, and what ties them: the rows by id, read in order of id, and the ids by key.
+use Rattle.std.specs.Prelude.{◌≡◌, ◌≤◌, ℕ, nat_eq, Bool, cond, List, Option, Some}
 use Rattle.std.specs.Ordering.{nat_cmp}
 use Rattle.std.specs.BTreeMap.{is_at}
+use Rattle.std.specs.HashMap.{spare}
+use Rattle.std.specs.List.{IsDistinct}
 use Rattle.std.specs.List.Sorted.{IsStrictlySortedBy}
 use Rattle.std.specs.Map.{keys_of, values_of, lookup}
 use Rattle.lvs_types.specs.declared.template.TemplateKey.{TemplateKey}
 use Rattle.lvs_types.specs.contracts.template.TemplateKeyPartialEq.TheImpl as key_eq
+use Rattle.lvs_model.specs.Lists.{sorted_by}
 use Rattle.lvs_templates.specs.declared.row.TemplateRow.{TemplateRow}
 use Rattle.lvs_templates.specs.declared.maps.Maps.{Maps}
 
@@ -38,9 +41,20 @@ pub record IsStore (rows : List (ℕ × TemplateRow)) (ids : List (TemplateKey �
   pub ordered : IsStrictlySortedBy nat_cmp (keys_of rows)
   pub tied : AreTied (row_at rows) (id_at ids)
 
-abbrev pub IsWhole : Maps → Type 0
-IsWhole maps = IsStore maps.rows.entries maps.ids.entries
+-- the entries in order of id
+abbrev pub in_order : List (ℕ × TemplateRow) → List (ℕ × TemplateRow)
+in_order entries = sorted_by (λ (e : ℕ × TemplateRow). e.0) entries
+
+-- both maps have the room that is promised
+pub record HasRoom (maps : Maps) : Type 0 where
+  pub rows : maps.room ≤ spare maps.rows
+  pub ids : maps.room ≤ spare maps.ids
+
+pub record IsWhole (maps : Maps) : Type 0 where
+  pub unique : IsDistinct nat_eq (keys_of maps.rows.entries)
+  pub store : IsStore (in_order maps.rows.entries) maps.ids.entries
+  pub room : HasRoom maps
 
 -- the rows, in order of id
 abbrev pub rows_of : Maps → List TemplateRow
-rows_of maps = values_of maps.rows.entries
+rows_of maps = values_of (in_order maps.rows.entries)

@@ -2,6 +2,7 @@
 #![tactic(auto)]
 
 mod due;
+mod gather;
 mod maps;
 mod row;
 mod templates;

@@ -1,5 +1,5 @@
 //! The store of templates.
-ghost use Rattle.std.specs.Prelude.{◌≡◌, ◌<◌, ◌+◌, ◌-◌, ◌^◌, ◌∷◌, ◌++◌, List, [], IfOk, IfSome, OnOk, OnErr, IsOk, IsSome};
+ghost use Rattle.std.specs.Prelude.{◌≡◌, ◌<◌, ◌≤◌, ◌+◌, ◌-◌, ◌^◌, ◌∷◌, ◌++◌, List, [], IfOk, IfSome, OnOk, OnErr, IsOk, IsSome, None};
 ghost use Rattle.std.specs.Option.{option_map, option_copied};
 ghost use Rattle.std.specs.List.{find, filter, count_by, AllByRecursion};
 ghost use Rattle.lvs_model.specs.Lists.{without};
@@ -20,13 +20,12 @@ pub struct Templates {
 }
 
 impl Model for Templates {
-    ghost use Rattle.std.specs.Prelude.{List};
-    ghost use Rattle.lvs_templates.specs.declared.row.TemplateRow.{TemplateRow};
+    ghost use Rattle.lvs_templates.specs.Seen.{TemplatesSeen};
     ghost use Rattle.lvs_templates.specs.Maps.{rows_of, IsWhole};
 
-    ghost Value = { List TemplateRow };
+    ghost Value = { TemplatesSeen };
 
-    ghost view = { λ t. rows_of t.maps };
+    ghost view = { λ t. record { rows = rows_of t.maps; spare = t.maps.room } };
 
     ghost invariant = { λ t. IsWhole t.maps };
 }
@@ -34,7 +33,7 @@ impl Model for Templates {
 impl Templates {
     /// No templates.
     pub fn new(alloc: Global) -> Result<Templates, NoMemory>
-        ensures { IfOk result (λ t. t ≡ []) }
+        ensures { IfOk result (λ t. t.rows ≡ []) }
     {
         Ok(Templates {
             maps: Maps::new(alloc),
@@ -43,8 +42,8 @@ impl Templates {
 
     /// The template of a key. No two templates have one key or one id.
     pub fn find(&self, key: &TemplateKey) -> Option<&Template>
-        ensures template { option_copied result ≡ template_at key.now (templates_of self.now) }
-        ensures apart { AreDistinct self.now }
+        ensures template { option_copied result ≡ template_at key.now (templates_of self.now.rows) }
+        ensures apart { AreDistinct self.now.rows }
     {
         match self.maps.find(key) {
             Some(row) => Some(&row.template),
@@ -54,8 +53,8 @@ impl Templates {
 
     /// The template of an id. No two templates have one key or one id.
     pub fn get(&self, id: TemplateId) -> Option<&Template>
-        ensures template { option_copied result ≡ template_of_id id (templates_of self.now) }
-        ensures apart { AreDistinct self.now }
+        ensures template { option_copied result ≡ template_of_id id (templates_of self.now.rows) }
+        ensures apart { AreDistinct self.now.rows }
     {
         match self.maps.get(id) {
             Some(row) => Some(&row.template),
@@ -67,20 +66,49 @@ impl Templates {
     /// controls stays where that one has the same id, and else begins at 0. A template whose id is
     /// there takes no memory.
     pub fn put(&mut self, template: Template) -> Result<Option<Template>, NoMemory>
-        requires free { IfSome (find (has_id template.id) self.old) (λ row. row.template.key ≡ template.key) }
-        ensures before { IfOk result (λ old. old ≡ template_at template.key (templates_of self.old)) }
-        ensures rows { OnOk result (self.new ≡ put template self.old) }
-        ensures last { AllByRecursion (λ (row : TemplateRow). row.template.id.0 < template.id.0) self.old → OnOk result (self.new ≡ without (has_key template.key) self.old ++ new_row template ∷ []) }
-        ensures known { IsSome (template_of_id template.id (templates_of self.old)) → IsOk result }
+        requires free { IfSome (find (has_id template.id) self.old.rows) (λ row. row.template.key ≡ template.key) }
+        ensures before { IfOk result (λ old. old ≡ template_at template.key (templates_of self.old.rows)) }
+        ensures rows { OnOk result (self.new.rows ≡ put template self.old.rows) }
+        ensures last { AllByRecursion (λ (row : TemplateRow). row.template.id.0 < template.id.0) self.old.rows → OnOk result (self.new.rows ≡ without (has_key template.key) self.old.rows ++ new_row template ∷ []) }
+        ensures known { IsSome (template_of_id template.id (templates_of self.old.rows)) → IsOk result }
+        ensures spare { IsSome (template_of_id template.id (templates_of self.old.rows)) → self.new.spare ≡ self.old.spare }
         ensures err { OnErr result (self.new ≡ self.old) }
+    {
+        if self.maps.get(template.id).is_none() {
+            self.maps.reserve()?;
+        }
+        Ok(self.maps.put(template))
+    }
+
+    /// Makes room for one more template. Where there is no memory everything is as before.
+    pub fn reserve(&mut self) -> Result<(), NoMemory>
+        ensures rows { self.new.rows ≡ self.old.rows }
+        ensures ok { OnOk result (0 < self.new.spare) }
+        ensures kept { self.old.spare ≤ self.new.spare }
+        ensures err { OnErr result (self.new ≡ self.old) }
+    {
+        self.maps.reserve()
+    }
+
+    /// Puts a template in the place of the one of its key, as `put` does, into room that was made.
+    /// A template whose id is there leaves the room as it is; one with a new id takes it.
+    pub fn put_reserved(&mut self, template: Template) -> Option<Template>
+        requires room { 0 < self.old.spare }
+        requires free { IfSome (find (has_id template.id) self.old.rows) (λ row. row.template.key ≡ template.key) }
+        ensures before { result ≡ template_at template.key (templates_of self.old.rows) }
+        ensures rows { self.new.rows ≡ put template self.old.rows }
+        ensures last { AllByRecursion (λ (row : TemplateRow). row.template.id.0 < template.id.0) self.old.rows → self.new.rows ≡ without (has_key template.key) self.old.rows ++ new_row template ∷ [] }
+        ensures spare { IsSome (template_of_id template.id (templates_of self.old.rows)) → self.new.spare ≡ self.old.spare }
+        ensures taken { template_of_id template.id (templates_of self.old.rows) ≡ None → self.new.spare + 1 ≡ self.old.spare }
     {
         self.maps.put(template)
     }
 
     /// Takes out the template of a key.
     pub fn take(&mut self, key: &TemplateKey) -> Option<Template>
-        ensures taken { result ≡ template_at key.now (templates_of self.old) }
-        ensures rows { self.new ≡ without (has_key key.now) self.old }
+        ensures taken { result ≡ template_at key.now (templates_of self.old.rows) }
+        ensures rows { self.new.rows ≡ without (has_key key.now) self.old.rows }
+        ensures spare { self.new.spare ≡ self.old.spare }
     {
         match self.maps.leave(key) {
             Some(row) => Some(row.template),
@@ -90,8 +118,9 @@ impl Templates {
 
     /// One more entry was made by the template of an id. An id that is gone changes nothing.
     pub fn control(&mut self, id: TemplateId)
-        requires room { IfSome (find (has_id id) self.old) (λ row. row.controls < 2 ^ 63) }
-        ensures { self.new ≡ recount (λ n. n + 1) id self.old }
+        requires room { IfSome (find (has_id id) self.old.rows) (λ row. row.controls < 2 ^ 63) }
+        ensures rows { self.new.rows ≡ recount (λ n. n + 1) id self.old.rows }
+        ensures spare { self.new.spare ≡ self.old.spare }
     {
         self.maps.raise(id);
     }
@@ -99,8 +128,9 @@ impl Templates {
     /// One of the entries that the template of an id made is gone. An id that is gone changes
     /// nothing.
     pub fn uncontrol(&mut self, id: TemplateId)
-        requires some { IfSome (find (has_id id) self.old) (λ row. 0 < row.controls) }
-        ensures { self.new ≡ recount (λ n. n - 1) id self.old }
+        requires some { IfSome (find (has_id id) self.old.rows) (λ row. 0 < row.controls) }
+        ensures rows { self.new.rows ≡ recount (λ n. n - 1) id self.old.rows }
+        ensures spare { self.new.spare ≡ self.old.spare }
     {
         self.maps.lower(id);
     }
@@ -109,10 +139,11 @@ impl Templates {
     /// the deadline of the due ones that have some to 60 seconds from now.
     pub fn due(&mut self, alloc: Global, now: u64) -> Result<Due, NoMemory>
         requires { now < 2 ^ 63 }
-        ensures gone { IfOk result (λ due. due.gone.items ≡ templates_of (filter (leaves now) self.old)) }
+        ensures gone { IfOk result (λ due. due.gone.items ≡ templates_of (filter (leaves now) self.old.rows)) }
         ensures rising { IfOk result (λ due. IsRising due.gone.items) }
-        ensures renewed { IfOk result (λ due. due.renewed ≡ count_by (is_renewed now) self.old) }
-        ensures rows { OnOk result (self.new ≡ after_due now self.old) }
+        ensures renewed { IfOk result (λ due. due.renewed ≡ count_by (is_renewed now) self.old.rows) }
+        ensures rows { OnOk result (self.new.rows ≡ after_due now self.old.rows) }
+        ensures spare { self.new.spare ≡ self.old.spare }
         ensures err { OnErr result (self.new ≡ self.old) }
     {
         let gone = self.maps.leaving(alloc, now)?;
@@ -124,8 +155,8 @@ impl Templates {
 
     /// All templates, in order of id.
     pub fn all(&self, alloc: Global) -> Result<Vec<Template>, NoMemory>
-        ensures templates { IfOk result (λ all. all.items ≡ templates_of self.now) }
-        ensures apart { AreDistinct self.now }
+        ensures templates { IfOk result (λ all. all.items ≡ templates_of self.now.rows) }
+        ensures apart { AreDistinct self.now.rows }
         ensures rising { IfOk result (λ all. IsRising all.items) }
     {
         self.maps.all(alloc)

@@ -1,4 +1,4 @@
-//! Templates that are due, keys that differ in one field, and a template in the place of another.
+//! Templates that are due, keys that differ in one field, a template in the place of another, and room.
 use crate::Templates;
 use lvs_types::{Addr, Method, Template, TemplateId, TemplateKey};
 use std::test::Fail;
@@ -109,5 +109,15 @@ fn puts_one_over_another(rt: HostRuntime) -> Result<(), Fail> {
     assert_eq!(rt; templates.all(alloc)?.first().copied(), Some(next));
     templates.control(TemplateId(1));
     assert_eq!(rt; templates.due(alloc, 100)?.gone.len(), 1);
+    Ok(())
+}
+
+#[test]
+fn puts_one_where_room_was_made(rt: HostRuntime) -> Result<(), Fail> {
+    let mut templates = Templates::new(rt.alloc())?;
+    templates.reserve()?;
+    assert_eq!(rt; templates.put_reserved(FIRST), None);
+    assert_eq!(rt; templates.find(&KEY).copied(), Some(FIRST));
+    assert_eq!(rt; templates.get(TemplateId(1)).copied(), Some(FIRST));
     Ok(())
 }

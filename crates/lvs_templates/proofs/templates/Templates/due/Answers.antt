@@ -1,6 +1,7 @@
 use Rattle.std.proofs.Common.{◌∙◌, ap, map}
 use Rattle.lvs_templates.specs.Rows.{renew, without_all, leaves, after_due}
-use Rattle.lvs_templates.specs.Maps.{rows_of}
+use Rattle.lvs_templates.specs.Seen.{TemplatesSeen}
+use Rattle.lvs_templates.specs.Maps.{in_order, rows_of}
 use Rattle.lvs_templates.proofs.Leaving.{are_apart, taken_out, some_rise}
 use Rattle.lvs_templates.proofs.templates.Templates.due.Goals as goal
 
@@ -10,8 +11,8 @@ returns-clause-rows c =
     c.renew.ensures.rows
     ∙ ap (map (renew c.args.now))
     (c.leave_all.ensures.rows ∙ ap (λ gone. without_all gone rows) (c.deref.ensures.value ∙ c.in_ok-gone.ensures)
-    ∙ taken_out (leaves c.args.now) rows (are_apart c.self.inside.maps.rows.entries c.self.inside.maps.ids.entries c.self.invariant))
-    ∙ ap (after_due c.args.now) c.self.view_is
+    ∙ taken_out (leaves c.args.now) rows (are_apart (in_order c.self.inside.maps.rows.entries) c.self.inside.maps.ids.entries c.self.invariant.store))
+    ∙ ap (λ (seen : TemplatesSeen). after_due c.args.now seen.rows) c.self.view_is
 
 pub returns-clause-rising : goal.returns-clause-rising
-returns-clause-rising c = some_rise (leaves c.args.now) c.self.inside.maps.rows.entries c.self.inside.maps.ids.entries c.in_ok-gone.gone.items c.self.invariant c.in_ok-gone.ensures
+returns-clause-rising c = some_rise (leaves c.args.now) (in_order c.self.inside.maps.rows.entries) c.self.inside.maps.ids.entries c.in_ok-gone.gone.items c.self.invariant.store c.in_ok-gone.ensures
