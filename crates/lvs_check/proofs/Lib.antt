@@ -1,0 +1,10 @@
+pub mod ActLemmas
+pub mod ClockLemmas
+pub mod DueLines
+pub mod HeadLemmas
+pub mod Judged
+pub mod KindLemmas
+pub mod LineLemmas
+pub mod RangeLemmas
+pub mod StepLemmas
+pub mod WordLemmas
