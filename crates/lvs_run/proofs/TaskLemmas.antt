@@ -8,6 +8,8 @@ use Rattle.lvs_types.specs.declared.book.RoundBook.{RoundBook}
 use Rattle.lvs_types.specs.declared.capture.Capture.{Capture}
 use Rattle.lvs_types.specs.declared.program.ProgramCommand.{ProgramCommand}
 use Rattle.lvs_types.specs.declared.program.ProgramCommand.TheVariants as program
+use Rattle.lvs_types.specs.declared.report.Verdict.{Verdict}
+use Rattle.lvs_types.specs.declared.report.Verdict.TheVariants as verdict
 use Rattle.lvs_types.specs.declared.script.Script.{Script}
 use Rattle.lvs_types.specs.declared.status.Status.{Status}
 use Rattle.lvs_types.specs.declared.status.Status.TheVariants as status
@@ -18,13 +20,15 @@ use Rattle.lvs_model.specs.Captured.{captured}
 use Rattle.lvs_model.specs.Inputs.{Parts, parts_of}
 use Rattle.lvs_model.specs.Refusals.{◌>>=◌}
 use Rattle.lvs_model.specs.Scripts.{script_of}
-use Rattle.lvs_model.specs.Tasks.{Task, task_of, report_task, capture_task, serial_run, script_given, script_behind, capture_given, AreBooksOf, AreBooksOfRuns, IsPlayedOut, rounds_due}
+use Rattle.lvs_model.specs.Checking.{judgement}
+use Rattle.lvs_model.specs.Verdicts.{verdict_text}
+use Rattle.lvs_model.specs.Tasks.{Task, task_of, verdict_task, verdict_end, report_task, capture_task, serial_run, script_given, script_behind, capture_given, AreBooksOf, AreBooksOfRuns, IsPlayedOut, rounds_due}
 use Rattle.lvs_run.specs.declared.output.Output.TheVariants as output
 use Rattle.lvs_run.specs.declared.writing.Wrote.{Wrote}
 use Rattle.lvs_run.specs.declared.writing.Wrote.TheVariants as wrote
 use Rattle.lvs_run.specs.Answers.{IsWrittenOf, IsAnswer, IsReady, status_of}
-use Rattle.lvs_run.specs.Stages.{IsRefusal, IsRefusedBy}
-use Rattle.lvs_run.specs.Written.{AreWritten, IsSent}
+use Rattle.lvs_run.specs.Stages.{IsCompleted, IsRefusal, IsRefusedBy}
+use Rattle.lvs_run.specs.Written.{IsWrote, AreWritten, IsSent}
 use Rattle.lvs_run.proofs.AnswerLemmas.{refused_answer}
 use Rattle.lvs_run.proofs.Books.{reports_are, report_is_cut, nothing_appended}
 use Rattle.lvs_run.proofs.LegalLemmas.{no_books_of_run}
@@ -91,6 +95,48 @@ pub serial_refused : (input : List ℕ) (old new : Option (List ℕ)) (found s :
 serial_refused input old new found s books is same kept none =
     subst (λ (t : Status). IsAnswer program.Serial (task_of program.Serial input) old new t books) (sym same)
     (refused_answer program.Serial (task_of program.Serial input) old new found books (passed_on (script_given input) (λ (script : Script). Ok (report_task (serial_run script))) found is) (ready_serial input) (λ task. nothing_appended old new (task.text []) kept) kept none)
+
+-- A VERDICT
+
+verdict_completed : (v : Verdict) → IsCompleted (verdict_end v)
+verdict_completed verdict.Legal = tt
+verdict_completed (verdict.Illegal line expected found) = tt
+verdict_completed (verdict.Unreadable line) = tt
+
+abbrev reported : List ℕ → Parts
+reported input = parts_of (codes "report") input
+
+abbrev with_report : List ℕ → Script → Result Task Status
+with_report report script = Ok (verdict_task (judgement script report))
+
+pub ready_check : (input : List ℕ) → IsReady (task_of program.Check input)
+ready_check input =
+    ready_by (script_given (reported input).first) (with_report (reported input).second) (script_refused 0 (script_of (reported input).first)) (λ script. (verdict_completed (judgement script (reported input).second), refl))
+
+pub verdict_given : (input first second : List ℕ) (script : Script) (v : Verdict) → first ≡ (reported input).first → second ≡ (reported input).second → script_given first ≡ Ok script → v ≡ judgement script second → task_of program.Check input ≡ Ok (verdict_task v)
+verdict_given input first second script v one two given is =
+    let here : script_given (reported input).first ≡ Ok script = ap script_given (sym one) ∙ given in
+    let same : judgement script (reported input).second ≡ v = ap (judgement script) (sym two) ∙ sym is in
+    rw here (ap (λ (w : Verdict). Ok (verdict_task w)) same)
+
+pub refused_report : (input first : List ℕ) (s : Status) → first ≡ (reported input).first → IsRefusedBy (script_given first) s → IsRefusedBy (task_of program.Check input) s
+refused_report input first s one is =
+    passed_on (script_given (reported input).first) (with_report (reported input).second) s (subst (λ (l : List ℕ). IsRefusedBy (script_given l) s) one is)
+
+told_of : (v : Verdict) (old new : Option (List ℕ)) (w : Wrote) → IsWrote old new (verdict_text v) w → IsWrittenOf program.Check (verdict_task v) old new [] w
+told_of v old new wrote.All written = (refl, written)
+told_of v old new wrote.Prefix written = written
+told_of v old new wrote.NoMemory written = nothing_appended old new (verdict_text v) written
+
+pub check_answer : (input : List ℕ) (v : Verdict) (old new : Option (List ℕ)) (s end : Status) (books : List RoundBook) (w : Wrote) → task_of program.Check input ≡ Ok (verdict_task v) → s ≡ status_of end w → end ≡ verdict_end v → books ≡ [] → IsWrote old new (verdict_text v) w → IsAnswer program.Check (task_of program.Check input) old new s books
+check_answer input v old new s end books w found is ends none written =
+    let P : List RoundBook → Type 0 = λ l. IsAnswer program.Check (task_of program.Check input) old new s l in
+    subst P (sym none) (answer_with program.Check (task_of program.Check input) (verdict_task v) old new s [] found (w, is ∙ ap (λ (e : Status). status_of e w) ends, verdict_completed v, refl, told_of v old new w written))
+
+pub check_refused : (input : List ℕ) (old new : Option (List ℕ)) (found s : Status) (books : List RoundBook) → IsRefusedBy (task_of program.Check input) found → s ≡ found → new ≡ old → books ≡ [] → IsAnswer program.Check (task_of program.Check input) old new s books
+check_refused input old new found s books is same kept none =
+    subst (λ (t : Status). IsAnswer program.Check (task_of program.Check input) old new t books) (sym same)
+    (refused_answer program.Check (task_of program.Check input) old new found books is (ready_check input) (λ task. nothing_appended old new (task.text []) kept) kept none)
 
 -- A CAPTURE
 

@@ -8,6 +8,7 @@ use Rattle.lvs_model.specs.ProgramWords.{whole_at, capture_of}
 abbrev pub asked_named : List ℕ → List (List ℕ) → Result ProgramCommand ℕ
 asked_named name words =
     if bytes_eq name (codes "serial") then whole_at 1 words program.Serial
+    else if bytes_eq name (codes "check") then whole_at 1 words program.Check
     else if bytes_eq name (codes "capture") then capture_of words
     else Err 0
 
@@ -19,5 +20,6 @@ asked_of (name ∷ more) = asked_named name (name ∷ more)
 -- the command is one of these, with its numbers in their limits
 abbrev pub IsAsked : ProgramCommand → Type 0
 IsAsked program.Serial = Unit {0}
+IsAsked program.Check = Unit {0}
 IsAsked (program.Capture net bits step) = (bits ≤ 32) × (0 < step)
 IsAsked other = ⊥

@@ -9,10 +9,11 @@ ghost use Rattle.lvs_run.specs.Words.{IsAsked};
 ghost use Rattle.lvs_run.specs.Written.{IsSent, HasSinkCause};
 
 use crate::Done;
-use crate::done::{with_rounds, without_rounds};
-use crate::given::{given_captured, given_script};
+use crate::done::{ended, with_rounds, without_rounds};
+use crate::given::{given_captured, given_script, given_verdict};
 use crate::output::Output;
 use crate::rounds::{Played, play_script};
+use crate::verdict::{verdict_end, write_verdict};
 use crate::writing::{Wrote, write_header};
 use lvs_outside::Sink;
 use lvs_types::{Addr, ProgramCommand, Script, Status};
@@ -69,6 +70,21 @@ fn capture_script<K: Sink>(
     }
 }
 
+/// `check`: the verdict on the report behind the script.
+fn check_report<K: Sink>(alloc: Global, input: &[u8], sink: &mut K) -> Done
+    ensures answer { IsAnswer program.Check (task_of program.Check input.now) (K.written sink.old) (K.written sink.new) result.status result.rounds.items }
+    ensures rose { result.status ≡ Status.WriteFault → Rose (K.faults sink.old) (K.faults sink.new) }
+    ensures kept { result.status ≢ Status.WriteFault → K.faults sink.new ≡ K.faults sink.old }
+{
+    match given_verdict(alloc, input) {
+        Ok(verdict) => {
+            let wrote = write_verdict(alloc, &verdict, sink);
+            without_rounds(alloc, ended(verdict_end(verdict), wrote))
+        }
+        Err(status) => without_rounds(alloc, status),
+    }
+}
+
 /// Does what a command asks for with the whole input.
 pub(crate) fn perform<K: Sink>(
     alloc: Global,
@@ -83,6 +99,7 @@ pub(crate) fn perform<K: Sink>(
 {
     match command {
         ProgramCommand::Serial => report_script(alloc, input, sink),
+        ProgramCommand::Check => check_report(alloc, input, sink),
         ProgramCommand::Capture { net, bits, step } => {
             capture_script(alloc, *net, *bits, *step, input, sink)
         }

@@ -4,14 +4,15 @@ ghost use Rattle.lvs_types.specs.declared.program.ProgramCommand.TheVariants as 
 ghost use Rattle.lvs_model.specs.Captured.{captured as spec_captured};
 ghost use Rattle.lvs_model.specs.CaptureFiles.{capture_of};
 ghost use Rattle.lvs_model.specs.ScriptLimits.{IsWithinLimits};
-ghost use Rattle.lvs_model.specs.Tasks.{script_given, capture_given, task_of, capture_task, serial_run};
+ghost use Rattle.lvs_model.specs.Tasks.{script_given, capture_given, task_of, capture_task, serial_run, verdict_task};
 ghost use Rattle.lvs_pcap.specs.Reading.{AreInSeconds};
 ghost use Rattle.lvs_run.specs.Stages.{IsRefusedBy, capture_status};
 
 use crate::parts::two_parts;
+use lvs_check::check;
 use lvs_pcap::{CaptureRefused, captured, read_capture};
 use lvs_script::{ScriptRefused, read_script};
-use lvs_types::{Addr, Capture, Script, Status};
+use lvs_types::{Addr, Capture, Script, Status, Verdict};
 use std::alloc::Global;
 
 /// The script that bytes spell, or the status of its first refused line.
@@ -94,4 +95,17 @@ pub(crate) fn given_captured(
     let capture = given_capture(alloc, parts.second)?;
     add_capture(alloc, net, bits, step, &mut script, capture)?;
     Ok(script)
+}
+
+/// The verdict on the report behind the script, or the status of the script's first refused line.
+pub(crate) fn given_verdict(alloc: Global, input: &[u8]) -> Result<Verdict, Status>
+    ensures judged { IfOk result (λ verdict. task_of program.Check input.now ≡ Ok (verdict_task verdict)) }
+    ensures refused { IfErr result (IsRefusedBy (task_of program.Check input.now)) }
+{
+    let parts = two_parts(b"report", input);
+    let script = given_script(alloc, parts.first)?;
+    match check(alloc, &script, parts.second) {
+        Ok(verdict) => Ok(verdict),
+        Err(_) => Err(Status::NoMemory),
+    }
 }

@@ -17,6 +17,7 @@ mod round;
 mod rounds;
 mod serial;
 mod streams;
+mod verdict;
 mod writing;
 
 pub use done::Done;

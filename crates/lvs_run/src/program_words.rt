@@ -99,6 +99,8 @@ pub(crate) fn asked(words: &[String]) -> Result<ProgramCommand, usize>
     };
     if name.as_str() == "serial" {
         whole(1, words, ProgramCommand::Serial)
+    } else if name.as_str() == "check" {
+        whole(1, words, ProgramCommand::Check)
     } else if name.as_str() == "capture" {
         capture(words)
     } else {

@@ -1,4 +1,4 @@
-//! The commands of one thread: `serial` and `capture`.
+//! The commands of one thread: `serial`, `check` and `capture`.
 ghost use Rattle.std.specs.Prelude.{◌≡◌, ◌≢◌, ◌≤◌, ◌+◌, ◌↔◌, ◌⊎◌, ℕ, List, [], map, length, Some, Ok, Err, string_bytes};
 ghost use Rattle.std.specs.Io.KnownBytes.{Consumes};
 ghost use Rattle.lvs_types.specs.Limits.{max_input};
@@ -20,12 +20,13 @@ use lvs_types::Status;
 use std::alloc::Global;
 
 /// Does what the words say with the source, on one thread, and writes the answer to the sink: for
-/// `serial` the report of the script's rounds, each when it is done; for `capture` the capture file
-/// of the packets that the director sent, likewise. Other words are refused.
+/// `serial` the report of the script's rounds, each when it is done; for `check` the verdict on a
+/// report; for `capture` the capture file of the packets that the director sent, each round's when it
+/// is done. Other words are refused.
 ///
-/// The words are read first, then the whole source, then the script, then the capture. After a
-/// refusal nothing is written and there are no rounds; after a write fault or want of memory a
-/// prefix of what is due of `rounds` is written.
+/// The words are read first, then the whole source, then the script, then the report or the capture.
+/// After a refusal nothing is written and there are no rounds; after a write fault or want of memory a
+/// prefix of what is due is written.
 pub fn serve_serial<S: Source, K: Sink>(
     alloc: Global,
     words: &[String],
