@@ -1,5 +1,5 @@
 //! What each command does with its input.
-ghost use Rattle.std.specs.Prelude.{◌≡◌, ◌≢◌, ◌≤◌, ◌<◌, ◌∷◌, [], length, List, Option};
+ghost use Rattle.std.specs.Prelude.{◌≡◌, ◌≢◌, ◌≤◌, ◌<◌, ◌∷◌, [], length};
 ghost use Rattle.lvs_types.specs.declared.program.ProgramCommand.TheVariants as program;
 ghost use Rattle.lvs_outside.specs.Faults.{Rose};
 ghost use Rattle.lvs_model.specs.ScriptLimits.{IsWithinLimits};

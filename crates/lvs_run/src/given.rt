@@ -1,5 +1,5 @@
 //! What an input spells.
-ghost use Rattle.std.specs.Prelude.{◌≡◌, ◌≤◌, ◌<◌, IfOk, IfErr, OnOk, OnErr, Ok};
+ghost use Rattle.std.specs.Prelude.{◌≡◌, ◌≤◌, ◌<◌, IfOk, IfErr, OnOk, Ok};
 ghost use Rattle.lvs_types.specs.declared.program.ProgramCommand.TheVariants as program;
 ghost use Rattle.lvs_model.specs.Captured.{captured as spec_captured};
 ghost use Rattle.lvs_model.specs.CaptureFiles.{capture_of};

@@ -30,6 +30,8 @@ pub use streams::{Served, serve_streams};
 #[cfg(test)]
 mod capture_rows;
 #[cfg(test)]
+mod check_rows;
+#[cfg(test)]
 mod fault_tests;
 #[cfg(test)]
 mod icmp_rows;

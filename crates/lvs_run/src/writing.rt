@@ -1,5 +1,5 @@
 //! Writing a text, and what became of it.
-ghost use Rattle.std.specs.Prelude.{◌≡◌, ◌≤◌};
+ghost use Rattle.std.specs.Prelude.{◌≤◌};
 ghost use Rattle.lvs_model.specs.CaptureFiles.{header_bytes};
 ghost use Rattle.lvs_run.specs.Written.{written_of, IsWrote, HasSinkCause};
 
