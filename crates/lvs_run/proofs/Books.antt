@@ -8,7 +8,6 @@ use Rattle.std.specs.Io.KnownBytes.{Appends}
 use Rattle.lvs_outside.specs.Faults.{AppendsPrefix, AppendsProperPrefix}
 use Rattle.lvs_outside.proofs.Known.{appends_more}
 use Rattle.lvs_types.specs.declared.book.RoundBook.{RoundBook}
-use Rattle.lvs_types.specs.declared.capture.Frame.{Frame}
 use Rattle.lvs_model.specs.Captured.{frames_of_book, sent_frames, sent_capture}
 use Rattle.lvs_model.specs.CaptureFiles.{record_bytes, header_bytes}
 use Rattle.lvs_model.specs.Report.{round_text, books_text}
@@ -16,7 +15,7 @@ use Rattle.lvs_run.specs.declared.output.Output.{Output}
 use Rattle.lvs_run.specs.declared.output.Output.TheVariants as output
 use Rattle.lvs_run.specs.declared.writing.Wrote.{Wrote}
 use Rattle.lvs_run.specs.declared.writing.Wrote.TheVariants as wrote
-use Rattle.lvs_run.specs.Written.{written_of, all_written_of, record_of, records_of, AppendsAllButLast, IsCutInLast, AreWritten, IsSent}
+use Rattle.lvs_run.specs.Written.{written_of, all_written_of, AppendsAllButLast, IsCutInLast, AreWritten, IsSent}
 
 le_self : (n : ℕ) → n ≤ n
 le_self n = omega arith

@@ -1,8 +1,8 @@
 -- What each command makes of its input.
-use Rattle.std.proofs.Common.{◌≡◌, ◌≢◌, ℕ, ◌+◌, ◌⊎◌, inl, inr, List, [], ◌∷◌, ◌++◌, Option, Some, None, Result, Ok, Err, length, refl, sym, ◌∙◌, ap, subst}
+use Rattle.std.proofs.Common.{◌≡◌, ℕ, List, [], ◌∷◌, Option, Result, Ok, Err, length, refl, sym, ◌∙◌, ap, subst}
 use Rattle.std.specs.Prelude.{codes}
 use Rattle.std.specs.Io.KnownBytes.{Appends}
-use Rattle.lvs_outside.specs.Faults.{Rose, AppendsPrefix, AppendsProperPrefix}
+use Rattle.lvs_outside.specs.Faults.{AppendsPrefix}
 use Rattle.lvs_types.specs.declared.addr.Addr.{Addr}
 use Rattle.lvs_types.specs.declared.book.RoundBook.{RoundBook}
 use Rattle.lvs_types.specs.declared.capture.Capture.{Capture}
@@ -22,7 +22,7 @@ use Rattle.lvs_model.specs.Refusals.{◌>>=◌}
 use Rattle.lvs_model.specs.Scripts.{script_of}
 use Rattle.lvs_model.specs.Checking.{judgement}
 use Rattle.lvs_model.specs.Verdicts.{verdict_text}
-use Rattle.lvs_model.specs.Tasks.{Task, task_of, verdict_task, verdict_end, report_task, capture_task, serial_run, script_given, script_behind, capture_given, AreBooksOf, AreBooksOfRuns, IsPlayedOut, rounds_due}
+use Rattle.lvs_model.specs.Tasks.{Task, task_of, verdict_task, verdict_end, report_task, capture_task, serial_run, script_given, script_behind, capture_given, AreBooksOfRuns, rounds_due}
 use Rattle.lvs_run.specs.declared.output.Output.TheVariants as output
 use Rattle.lvs_run.specs.declared.writing.Wrote.{Wrote}
 use Rattle.lvs_run.specs.declared.writing.Wrote.TheVariants as wrote

@@ -1,5 +1,5 @@
 -- At which stage of a run a status comes.
-use Rattle.std.specs.Prelude.{◌≡◌, ℕ, Result, Err}
+use Rattle.std.specs.Prelude.{◌≡◌, Result, Err}
 use Rattle.lvs_types.specs.declared.status.Status.{Status}
 use Rattle.lvs_types.specs.declared.status.Status.TheVariants as status
 use Rattle.lvs_pcap.specs.declared.refused.CaptureRefused.{CaptureRefused}

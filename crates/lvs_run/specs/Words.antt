@@ -1,5 +1,5 @@
 -- The words of the command line that the program acts on so far, its own name left out (this project's profile).
-use Rattle.std.specs.Prelude.{ℕ, List, [], ◌∷◌, Result, Ok, Err, ◌≤◌, ◌<◌, if◌then◌else◌, codes, bytes_eq}
+use Rattle.std.specs.Prelude.{ℕ, List, [], ◌∷◌, Result, Err, ◌≤◌, ◌<◌, if◌then◌else◌, codes, bytes_eq}
 use Rattle.lvs_types.specs.declared.program.ProgramCommand.{ProgramCommand}
 use Rattle.lvs_types.specs.declared.program.ProgramCommand.TheVariants as program
 use Rattle.lvs_model.specs.ProgramWords.{whole_at, capture_of}

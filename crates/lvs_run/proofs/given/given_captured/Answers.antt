@@ -1,5 +1,4 @@
-use Rattle.std.proofs.Common.{rules}
-use Rattle.lvs_run.proofs.TaskLemmas.{captured_task, refused_script, refused_file, refused_packet}
+use Rattle.lvs_run.proofs.TaskLemmas.{captured_task}
 use Rattle.lvs_run.proofs.given.given_captured.Goals as goal
 
 pub returns-clause-accepted : goal.returns-clause-accepted

@@ -1,6 +1,4 @@
-use Rattle.std.proofs.Common.{◌≡◌, true, false, sym, ◌∙◌, arith}
-use Rattle.std.specs.Prelude.{bytes_eq}
-use Rattle.lvs_model.specs.Lines.{without_return}
+use Rattle.std.proofs.Common.{true, false, sym, ◌∙◌, arith}
 use Rattle.lvs_run.proofs.PartLemmas.{at_start, at_next, first_found, second_found, first_at_end, first_missed, second_at_end}
 use Rattle.lvs_run.proofs.parts.two_parts.Goals as goal
 

@@ -1,5 +1,4 @@
-use Rattle.std.proofs.Common.{◌∙◌, ap, length, arith}
-use Rattle.lvs_run.proofs.Books.{nothing_appended}
+use Rattle.std.proofs.Common.{ap, length, arith}
 use Rattle.lvs_run.proofs.Items.{few_steps}
 use Rattle.lvs_run.proofs.LegalLemmas.{books_of_run, no_books_of_run}
 use Rattle.lvs_run.proofs.rounds.play_script.Goals as goal

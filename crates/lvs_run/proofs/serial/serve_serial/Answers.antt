@@ -1,12 +1,10 @@
-use Rattle.std.proofs.Common.{◌≡◌, ℕ, List, Result, Ok, Err, inl, inr, map, sym, ◌∙◌, ap, subst}
+use Rattle.std.proofs.Common.{◌≡◌, ℕ, List, Result, Ok, Err, map, sym, ◌∙◌, subst}
 use Rattle.std.specs.Prelude.{string_bytes}
-use Rattle.lvs_types.specs.Limits.{max_input}
 use Rattle.lvs_types.specs.declared.program.ProgramCommand.{ProgramCommand}
-use Rattle.lvs_types.specs.declared.status.Status.{Status}
 use Rattle.lvs_model.specs.Tasks.{task_of}
 use Rattle.lvs_run.specs.Answers.{IsAnswer}
 use Rattle.lvs_run.specs.Words.{asked_of}
-use Rattle.lvs_run.proofs.AnswerLemmas.{completed_of, first_of, refusal_of, cut_of, memory_of, given_memory, nothing_of, late, complete_after, refused_after, unread_is_memory, unread_completed, unread_refusal}
+use Rattle.lvs_run.proofs.AnswerLemmas.{completed_of, first_of, refusal_of, cut_of, memory_of, given_memory, nothing_of, late, complete_after, refused_after}
 use Rattle.lvs_run.proofs.serial.serve_serial.Goals as goal
 
 pub returns-in-Ok-read_input-clause-headline : goal.returns-in-Ok-read_input-clause-headline
