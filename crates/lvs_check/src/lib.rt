@@ -17,3 +17,6 @@ mod walk;
 mod words;
 
 pub use checking::check;
+
+#[cfg(test)]
+mod tests;
