@@ -1,0 +1,44 @@
+#!/bin/sh
+# Runs the proved program on every sample of examples/ and compares what it writes with the report beside
+# it, asks `check` about that report, and runs the sample of a capture. Prints each difference, and ends
+# with 1 if there is one.
+#
+#     .ci/samples.sh [PROGRAM]
+#
+# PROGRAM is the build that `rt ci` or `rt run` leaves, where none is given. Without one that is told.
+root=$(cd "$(dirname "$0")/.." && pwd) || exit 1
+program=${1:-$root/crates/ipvsd/out/ipvsd}
+cd "$root/examples" || exit 1
+
+if [ ! -x "$program" ]; then
+    echo "samples: skipped, no proved program at $program"
+    exit 0
+fi
+room=$(mktemp -d) || exit 1
+trap 'rm -rf "$room"' EXIT
+failures=0
+count=0
+
+# differ SAMPLE WHAT: counts a difference.
+differ() {
+    echo "samples: $1: $2"
+    failures=$((failures + 1))
+}
+
+for script in *.ipvs; do
+    name=${script%.ipvs}
+    count=$((count + 1))
+    "$program" serial <"$script" >"$room/report" 2>"$room/error" || differ "$name" "$(head -n 1 "$room/error")"
+    cmp -s "$name.report" "$room/report" || differ "$name" "the report isn't the one beside it"
+    { cat "$script"; echo report; cat "$name.report"; } | "$program" check >"$room/verdict" 2>"$room/error"
+    [ "$(cat "$room/verdict")" = legal ] || differ "$name" "the report beside it isn't legal"
+done
+
+{ cat capture.ipvs; echo capture; cat capture.pcap; } | "$program" capture 192.168.0.0 16 1 >"$room/sent" 2>"$room/error"
+cmp -s capture.sent.pcap "$room/sent" || differ capture "what was sent isn't capture.sent.pcap"
+
+if [ "$failures" -ne 0 ]; then
+    echo "samples: $failures differences in $count samples"
+    exit 1
+fi
+echo "samples: $count samples"
