@@ -1,1 +1,16 @@
 pub mod Begins
+pub mod Counts
+pub mod Rows
+pub mod Ends
+pub mod Binds
+pub mod Sweeps
+pub mod Controls
+pub mod Rowed
+pub mod Ones
+pub mod Makers
+pub mod Lessens
+pub mod Changes
+pub mod Kept
+pub mod Desks
+pub mod Items
+pub mod Known
