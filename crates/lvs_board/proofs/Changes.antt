@@ -9,13 +9,12 @@ use Rattle.lvs_types.specs.declared.bucket.Change.{Change}
 use Rattle.lvs_types.specs.declared.bucket.Change.TheVariants.{Keep, Put, Update, End, Swap, EndDue}
 use Rattle.lvs_model.specs.Lists.{update_first, without}
 use Rattle.lvs_model.specs.Binding.{put_entry}
-use Rattle.lvs_model.specs.Buckets.{changed_by}
 use Rattle.lvs_model.specs.Lookups.{has_entry_id}
 use Rattle.lvs_model.specs.WellFormed.{entry_ids}
 use Rattle.lvs_well_formed.proofs.Keys.{nat_same}
 use Rattle.lvs_well_formed.proofs.Distinct.{distinct_parts}
 use Rattle.lvs_well_formed.proofs.Finds.{find_put}
-use Rattle.lvs_board.specs.Desks.{IsAbout, IsFree, IsKeyed, IsOfItem, with_entry, with_update, with_end}
+use Rattle.lvs_board.specs.Desks.{after, IsAbout, IsFree, IsKeyed, IsOfItem, with_entry, with_update, with_end}
 
 twice_step : {X : Type 0} (p : X → Bool) (u v x : X) (b : Bool) (xs once put : List X) → p x ≡ b → p u ≡ true → update_first p (λ _. v) once ≡ put
     → update_first p (λ _. v) (cond b (u ∷ xs) (x ∷ once)) ≡ cond b (v ∷ xs) (x ∷ put)
@@ -84,29 +83,29 @@ last_apart (x ∷ es) e apart =
 
 -- A FURTHER CHANGE
 
-pub put_after : (home : Option ℕ) (change : Change) (v : Entry) (es : List Entry) → IsDistinct nat_eq (entry_ids (changed_by change es)) → IsAbout home v.id change → put_entry v (changed_by change es) ≡ changed_by (with_update v change) es
-put_after home Keep v es apart about = refl
-put_after home (Put e) v es apart about = last_put es e v (last_apart es e apart) about
-put_after home (Update u) v es apart about = put_twice u v es about.0
-put_after home (End id) v es apart about = absurd about
-put_after home (Swap id e) v es apart about = last_put (without (has_entry_id id) es) e v (last_apart (without (has_entry_id id) es) e apart) about
-put_after home (EndDue moment) v es apart about = absurd about
+pub put_after : (p : Entry → Bool) (home : Option ℕ) (change : Change) (v : Entry) (es : List Entry) → IsDistinct nat_eq (entry_ids (after p change es)) → IsAbout home v.id change → put_entry v (after p change es) ≡ after p (with_update v change) es
+put_after p home Keep v es apart about = refl
+put_after p home (Put e) v es apart about = last_put es e v (last_apart es e apart) about
+put_after p home (Update u) v es apart about = put_twice u v es about.0
+put_after p home (End id) v es apart about = absurd about
+put_after p home (Swap id e) v es apart about = last_put (without (has_entry_id id) es) e v (last_apart (without (has_entry_id id) es) e apart) about
+put_after p home (EndDue moment) v es apart about = absurd about
 
-pub leave_after : (home : Option ℕ) (change : Change) (id : ℕ) (es : List Entry) → IsDistinct nat_eq (entry_ids (changed_by change es)) → IsAbout home id change → without (has_entry_id id) (changed_by change es) ≡ changed_by (with_end id change) es
-leave_after home Keep id es apart about = refl
-leave_after home (Put e) id es apart about = last_left es e id (last_apart es e apart) about
-leave_after home (Update u) id es apart about = leave_put u id es about.0
-leave_after home (End other) id es apart about = absurd about
-leave_after home (Swap other e) id es apart about = last_left (without (has_entry_id other) es) e id (last_apart (without (has_entry_id other) es) e apart) about
-leave_after home (EndDue moment) id es apart about = absurd about
+pub leave_after : (p : Entry → Bool) (home : Option ℕ) (change : Change) (id : ℕ) (es : List Entry) → IsDistinct nat_eq (entry_ids (after p change es)) → IsAbout home id change → without (has_entry_id id) (after p change es) ≡ after p (with_end id change) es
+leave_after p home Keep id es apart about = refl
+leave_after p home (Put e) id es apart about = last_left es e id (last_apart es e apart) about
+leave_after p home (Update u) id es apart about = leave_put u id es about.0
+leave_after p home (End other) id es apart about = absurd about
+leave_after p home (Swap other e) id es apart about = last_left (without (has_entry_id other) es) e id (last_apart (without (has_entry_id other) es) e apart) about
+leave_after p home (EndDue moment) id es apart about = absurd about
 
-pub enter_after : (change : Change) (e : Entry) (es : List Entry) → IsFree change → changed_by change es ++ e ∷ [] ≡ changed_by (with_entry e change) es
-enter_after Keep e es free = refl
-enter_after (Put other) e es free = absurd free
-enter_after (Update other) e es free = absurd free
-enter_after (End id) e es free = refl
-enter_after (Swap id other) e es free = absurd free
-enter_after (EndDue moment) e es free = absurd free
+pub enter_after : (p : Entry → Bool) (change : Change) (e : Entry) (es : List Entry) → IsFree change → after p change es ++ e ∷ [] ≡ after p (with_entry e change) es
+enter_after p Keep e es free = refl
+enter_after p (Put other) e es free = absurd free
+enter_after p (Update other) e es free = absurd free
+enter_after p (End id) e es free = refl
+enter_after p (Swap id other) e es free = absurd free
+enter_after p (EndDue moment) e es free = absurd free
 
 -- THE CHANGE STAYS ONE OF THE ITEM
 
@@ -151,15 +150,15 @@ rekeyed_by u x v es (Some y) is keyed found same =
 rekeyed : (u x v : Entry) (es : List Entry) → u.id ≡ v.id → IsKeyed u.key u.id es → find (has_entry_id v.id) (put_entry u es) ≡ Some x → x.key ≡ v.key → IsKeyed v.key u.id es
 rekeyed u x v es ids keyed found same = rekeyed_by u x v es (find (has_entry_id u.id) es) refl keyed (subst (λ id. find (has_entry_id id) (put_entry u es) ≡ Some x) (sym ids) found) same
 
-pub updated_of_item : (whole : State) (home : Option ℕ) (change : Change) (x v : Entry) → IsOfItem whole home change → IsAbout home v.id change → find (has_entry_id v.id) (changed_by change whole.entries) ≡ Some x → x.key ≡ v.key
+pub updated_of_item : (p : Entry → Bool) (whole : State) (home : Option ℕ) (change : Change) (x v : Entry) → IsOfItem whole home change → IsAbout home v.id change → find (has_entry_id v.id) (after p change whole.entries) ≡ Some x → x.key ≡ v.key
     → IsOfItem whole home (with_update v change)
-updated_of_item whole home Keep x v of about found same = (about, keyed_by v.key v.id whole.entries x (Some x) found refl same)
-updated_of_item whole home (Put e) x v of about found same = subst (λ id. whole.next_entry ≤ id) about of
-updated_of_item whole home (Update u) x v of about found same =
+updated_of_item p whole home Keep x v of about found same = (about, keyed_by v.key v.id whole.entries x (Some x) found refl same)
+updated_of_item p whole home (Put e) x v of about found same = subst (λ id. whole.next_entry ≤ id) about of
+updated_of_item p whole home (Update u) x v of about found same =
     (about.1, subst (λ id. IsKeyed v.key id whole.entries) about.0 (rekeyed u x v whole.entries about.0 of.1 found same))
-updated_of_item whole home (End id) x v of about found same = absurd about
-updated_of_item whole home (Swap id e) x v of about found same = (of.0, subst (λ n. whole.next_entry ≤ n) about of.1)
-updated_of_item whole home (EndDue moment) x v of about found same = absurd about
+updated_of_item p whole home (End id) x v of about found same = absurd about
+updated_of_item p whole home (Swap id e) x v of about found same = (of.0, subst (λ n. whole.next_entry ≤ n) about of.1)
+updated_of_item p whole home (EndDue moment) x v of about found same = absurd about
 
 pub ended_of_item : (whole : State) (home : Option ℕ) (change : Change) (id : ℕ) → IsOfItem whole home change → IsAbout home id change → IsOfItem whole home (with_end id change)
 ended_of_item whole home Keep id of about = about

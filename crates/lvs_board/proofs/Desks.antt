@@ -12,7 +12,7 @@ use Rattle.lvs_model.specs.State.{State}
 use Rattle.lvs_model.specs.Counts.{row_of}
 use Rattle.lvs_model.specs.Timeouts.{is_active}
 use Rattle.lvs_model.specs.Binding.{put_entry, count_ended, count_bound, bound_to, bind_entry}
-use Rattle.lvs_model.specs.Buckets.{changed_by}
+use Rattle.lvs_model.specs.Clock.{is_swept}
 use Rattle.lvs_model.specs.Incoming.{end_entry}
 use Rattle.lvs_model.specs.Lookups.{has_entry_id}
 use Rattle.lvs_model.specs.WellFormed.{entry_ids, dest_ids}
@@ -26,7 +26,7 @@ use Rattle.lvs_well_formed.proofs.Finds.{find_put, find_last}
 use Rattle.lvs_well_formed.proofs.Lists.{all_weaker}
 use Rattle.lvs_board.specs.declared.desk.Desk.{Desk}
 use Rattle.lvs_board.specs.Stands.{AreTotalled}
-use Rattle.lvs_board.specs.Desks.{seen_of, state_of, AreFew, IsSound, IsOfItem, IsAbout, Holds, IsFree, CountsMore, with_entry, with_update, with_end}
+use Rattle.lvs_board.specs.Desks.{after, seen_of, state_of, AreFew, IsSound, IsOfItem, IsAbout, Holds, IsFree, CountsMore, with_entry, with_update, with_end}
 use Rattle.lvs_board.specs.Endings.{end_one, come_one, less_one, more_one, IsCountedAt, IsControlledAt, CanCome, CanControl, CanMove}
 use Rattle.lvs_board.proofs.Rows.{room_at, some_at}
 use Rattle.lvs_board.proofs.Ends.{dests_of_rows, left_by, ended_rows, free_rows, leaving_at}
@@ -53,16 +53,16 @@ templates_of_rows es [] = refl
 templates_of_rows es (t ∷ ts) = ap (λ (rest : List Template). t ∷ rest) (templates_of_rows es ts)
 
 pub remade_state : (whole : State) (d : Desk) (dests : DestsSeen) (templates : List TemplateRow) (change : Change) (next : ℕ) (ds : List Dest) (es : List Entry)
-    → dests ≡ with_rows d.dests (map (row_of es (templates_of d.templates)) ds) → templates ≡ map (template_row es) (templates_of d.templates) → changed_by change whole.entries ≡ es
+    → dests ≡ with_rows d.dests (map (row_of es (templates_of d.templates)) ds) → templates ≡ map (template_row es) (templates_of d.templates) → after (is_swept whole d.bucket) change whole.entries ≡ es
     → state_of whole (remade dests templates change next d) ≡ stated (state_of whole d) ds es next
 remade_state whole d dests templates change next ds es rows controls entries =
     ap (λ (seen : DestsSeen). state_of whole (remade seen templates change next d)) rows
     ∙ ap (λ (others : List Dest). record (state_of whole (remade d.dests templates change next d)) { dests = others }) (dests_of_rows es (templates_of d.templates) ds)
-    ∙ ap (λ (ts : List Template). record (stated (state_of whole d) ds (changed_by change whole.entries) next) { templates = ts }) (ap templates_of controls ∙ templates_of_rows es (templates_of d.templates))
+    ∙ ap (λ (ts : List Template). record (stated (state_of whole d) ds (after (is_swept whole d.bucket) change whole.entries) next) { templates = ts }) (ap templates_of controls ∙ templates_of_rows es (templates_of d.templates))
     ∙ ap (λ (others : List Entry). stated (state_of whole d) ds others next) entries
 
 pub remade_sound : (whole : State) (d : Desk) (dests : DestsSeen) (templates : List TemplateRow) (change : Change) (next : ℕ) (ds : List Dest) (es : List Entry)
-    → dests ≡ with_rows d.dests (map (row_of es (templates_of d.templates)) ds) → templates ≡ map (template_row es) (templates_of d.templates) → changed_by change whole.entries ≡ es
+    → dests ≡ with_rows d.dests (map (row_of es (templates_of d.templates)) ds) → templates ≡ map (template_row es) (templates_of d.templates) → after (is_swept whole d.bucket) change whole.entries ≡ es
     → AreFew (stated (state_of whole d) ds es next) → IsOfItem whole d.home change → whole.next_entry ≤ next → IsSound whole (remade dests templates change next d)
 remade_sound whole d dests templates change next ds es rows controls entries few of_item later =
     let is = sym (remade_state whole d dests templates change next ds es rows controls entries) in
@@ -101,9 +101,9 @@ can_lessen whole d e sound holds =
 abbrev EndedDesk : State → Desk → DestsSeen → List TemplateRow → Change → Entry → Type 0
 EndedDesk whole d dests templates change e = (dests ≡ with_rows d.dests (map (end_one e) d.dests.rows)) × (templates ≡ map (less_one e) d.templates) × (change ≡ with_end e.id d.change)
 
-end_entries : (whole : State) (d : Desk) (change : Change) (e : Entry) → IsSound whole d → Holds whole d e → change ≡ with_end e.id d.change → changed_by change whole.entries ≡ left_by e (state_of whole d).entries
+end_entries : (whole : State) (d : Desk) (change : Change) (e : Entry) → IsSound whole d → Holds whole d e → change ≡ with_end e.id d.change → after (is_swept whole d.bucket) change whole.entries ≡ left_by e (state_of whole d).entries
 end_entries whole d change e sound holds is =
-    ap (λ (c : Change). changed_by c whole.entries) is ∙ sym (leave_after d.home d.change e.id whole.entries sound.few.entries_apart holds.about)
+    ap (λ (c : Change). after (is_swept whole d.bucket) c whole.entries) is ∙ sym (leave_after (is_swept whole d.bucket) d.home d.change e.id whole.entries sound.few.entries_apart holds.about)
 
 end_dests : (whole : State) (d : Desk) (dests : DestsSeen) (e : Entry) → IsSound whole d → Holds whole d e → dests ≡ with_rows d.dests (map (end_one e) d.dests.rows)
     → dests ≡ with_rows d.dests (map (row_of (left_by e (state_of whole d).entries) (templates_of d.templates)) (end_entry e (state_of whole d)).dests)
@@ -144,14 +144,14 @@ can_move whole d x v sound holds names = λ id server was.
           (some_at s.entries s.templates x v id s.dests (found_as s.entries x v holds.found names.id) server names.server was),
     )
 
-put_entries : (whole : State) (d : Desk) (change : Change) (x v : Entry) → IsSound whole d → Holds whole d x → v.id ≡ x.id → change ≡ with_update v d.change → changed_by change whole.entries ≡ put_entry v (state_of whole d).entries
+put_entries : (whole : State) (d : Desk) (change : Change) (x v : Entry) → IsSound whole d → Holds whole d x → v.id ≡ x.id → change ≡ with_update v d.change → after (is_swept whole d.bucket) change whole.entries ≡ put_entry v (state_of whole d).entries
 put_entries whole d change x v sound holds same is =
-    ap (λ (c : Change). changed_by c whole.entries) is ∙ sym (put_after d.home d.change v whole.entries sound.few.entries_apart (about_as d x v holds.about same))
+    ap (λ (c : Change). after (is_swept whole d.bucket) c whole.entries) is ∙ sym (put_after (is_swept whole d.bucket) d.home d.change v whole.entries sound.few.entries_apart (about_as d x v holds.about same))
 
 put_of_item : (whole : State) (d : Desk) (change : Change) (x v : Entry) → IsSound whole d → Holds whole d x → v.id ≡ x.id → v.key ≡ x.key → change ≡ with_update v d.change → IsOfItem whole d.home change
 put_of_item whole d change x v sound holds same keys is =
     subst (IsOfItem whole d.home) (sym is)
-    (updated_of_item whole d.home d.change x v sound.of_item (about_as d x v holds.about same) (found_as (state_of whole d).entries x v holds.found same) (sym keys))
+    (updated_of_item (is_swept whole d.bucket) whole d.home d.change x v sound.of_item (about_as d x v holds.about same) (found_as (state_of whole d).entries x v holds.found same) (sym keys))
 
 abbrev PutDests : State → Desk → DestsSeen → Entry → Type 0
 PutDests whole d dests v = dests ≡ with_rows d.dests (map (row_of (put_entry v (state_of whole d).entries) (templates_of d.templates)) (state_of whole d).dests)
@@ -255,8 +255,8 @@ can_be_made whole d v sound =
     let s = state_of whole d in
     subst (CanControl v) (sym sound.totals.controls) (can_control s.entries v s.templates (omega (arith, sound.few.few, sound.few.young)))
 
-enter_entries : (whole : State) (d : Desk) (change : Change) (e : Entry) → IsFree d.change → change ≡ with_entry e d.change → changed_by change whole.entries ≡ (state_of whole d).entries ++ e ∷ []
-enter_entries whole d change e free is = ap (λ (c : Change). changed_by c whole.entries) is ∙ sym (enter_after d.change e whole.entries free)
+enter_entries : (whole : State) (d : Desk) (change : Change) (e : Entry) → IsFree d.change → change ≡ with_entry e d.change → after (is_swept whole d.bucket) change whole.entries ≡ (state_of whole d).entries ++ e ∷ []
+enter_entries whole d change e free is = ap (λ (c : Change). after (is_swept whole d.bucket) c whole.entries) is ∙ sym (enter_after (is_swept whole d.bucket) d.change e whole.entries free)
 
 enter_controls : (whole : State) (d : Desk) (templates : List TemplateRow) (e : Entry) → IsSound whole d → templates ≡ map (more_one e) d.templates → templates ≡ map (template_row ((state_of whole d).entries ++ e ∷ [])) (templates_of d.templates)
 enter_controls whole d templates e sound is =

@@ -65,11 +65,11 @@ begins_few s steps well counted young = record {
 abbrev board_of : List Noted → ℕ → Desk → BoardSeen
 board_of book steps d = record { tables = seen_of d; book = book; steps = steps }
 
-abbrev begun : Option ℕ → Desk → Desk
-begun home d = record d { home = home; change = Keep }
+abbrev begun : Option ℕ → ℕ → Desk → Desk
+begun home bucket d = record d { home = home; bucket = bucket; change = Keep }
 
-pub begins_sound : (whole : State) (d : Desk) (home : Option ℕ) (book : List Noted) (steps : ℕ) → StandsFor (board_of book steps d) whole → IsWellFormed whole → IsCounted steps whole → steps < 2 ^ 62 → IsSound whole (begun home d)
-begins_sound whole d home book steps stands well counted young = record {
+pub begins_sound : (whole : State) (d : Desk) (home : Option ℕ) (bucket : ℕ) (book : List Noted) (steps : ℕ) → StandsFor (board_of book steps d) whole → IsWellFormed whole → IsCounted steps whole → steps < 2 ^ 62 → IsSound whole (begun home bucket d)
+begins_sound whole d home bucket book steps stands well counted young = record {
   totals = subst (AreTotalled (seen_of d)) (sym stands.tables) stands.totals;
   few = subst AreFew (sym stands.tables) (begins_few whole steps well counted young);
   of_item = tt;

@@ -1,5 +1,5 @@
 -- What the desk stands for while an item is decided: its tables, and the entries as the change so far leaves them.
-use Rattle.std.specs.Prelude.{◌≡◌, ◌+◌, ◌<◌, ◌≤◌, ◌^◌, ℕ, cond, List, Option, Some, IfSome, length, nat_eq}
+use Rattle.std.specs.Prelude.{◌≡◌, ◌+◌, ◌<◌, ◌≤◌, ◌^◌, ℕ, cond, List, Option, Some, IfSome, length, nat_eq, Bool, [], ◌∷◌, ◌++◌}
 use Rattle.std.specs.List.{AllByRecursion, IsDistinct, find}
 use Rattle.lvs_types.specs.declared.addr.DestId.{DestId}
 use Rattle.lvs_types.specs.declared.dest.Dest.{Dest}
@@ -9,7 +9,9 @@ use Rattle.lvs_types.specs.declared.template.Template.{Template}
 use Rattle.lvs_types.specs.declared.bucket.Change.{Change}
 use Rattle.lvs_types.specs.declared.bucket.Change.TheVariants.{Keep, Put, Update, End, Swap, EndDue}
 use Rattle.lvs_model.specs.State.{State}
-use Rattle.lvs_model.specs.Buckets.{changed_by}
+use Rattle.lvs_model.specs.Binding.{put_entry}
+use Rattle.lvs_model.specs.Clock.{is_swept}
+use Rattle.lvs_model.specs.Lists.{without}
 use Rattle.lvs_model.specs.Counts.{active, inactive, counts_active, counts_inactive}
 use Rattle.lvs_model.specs.Lookups.{has_entry_id, dest_at, template_at}
 use Rattle.lvs_model.specs.WellFormed.{entry_ids, dest_ids, template_ids}
@@ -33,9 +35,18 @@ seen_of d = record {
   next_template = d.next_template;
 }
 
+-- what a change makes of all entries: of those that are due only these leave
+abbrev pub after : (Entry → Bool) → Change → List Entry → List Entry
+after leaves Keep entries = entries
+after leaves (Put e) entries = entries ++ e ∷ []
+after leaves (Update e) entries = put_entry e entries
+after leaves (End id) entries = without (has_entry_id id) entries
+after leaves (Swap id e) entries = without (has_entry_id id) entries ++ e ∷ []
+after leaves (EndDue moment) entries = without leaves entries
+
 -- the state that it stands for, where the item began at the whole one
 abbrev pub state_of : State → Desk → State
-state_of whole d = state_in (seen_of d) (changed_by d.change whole.entries) whole.buckets
+state_of whole d = state_in (seen_of d) (after (is_swept whole d.bucket) d.change whole.entries) whole.buckets
 
 -- ids are apart and below the next ones, which are far from the end
 pub record AreFew (s : State) : Type 0 where

@@ -24,6 +24,8 @@ pub(crate) struct Desk {
     pub next_template: u64,
     /// The id of the entry that was found for the item.
     pub home: Option<u64>,
+    /// The bucket that a sweep is of.
+    pub bucket: u32,
     pub change: Change,
 }
 
@@ -54,6 +56,7 @@ impl Desk {
             next_entry: 1,
             next_template: 1,
             home: None,
+            bucket: 0,
             change: Change::Keep,
         })
     }
