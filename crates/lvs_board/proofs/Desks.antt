@@ -17,7 +17,7 @@ use Rattle.lvs_model.specs.Incoming.{end_entry}
 use Rattle.lvs_model.specs.Lookups.{has_entry_id}
 use Rattle.lvs_model.specs.WellFormed.{entry_ids, dest_ids}
 use Rattle.lvs_dests.specs.Rows.{DestsSeen, row_at, named, IsFarBelow}
-use Rattle.lvs_templates.specs.declared.row.TemplateRow.{TemplateRow}
+use Rattle.lvs_templates.specs.Seen.{TemplatesSeen}
 use Rattle.lvs_templates.specs.Rows.{template_row, templates_of}
 use Rattle.lvs_rules.specs.Changes.{HaveSameNames, entered, appended}
 use Rattle.lvs_well_formed.proofs.Keys.{nat_same}
@@ -39,7 +39,7 @@ use Rattle.lvs_board.proofs.Kept.{put_few, bind_few, end_few, enter_few, append_
 
 -- THE STATE OF A DESK THAT CHANGED
 
-abbrev pub remade : DestsSeen → List TemplateRow → Change → ℕ → Desk → Desk
+abbrev pub remade : DestsSeen → TemplatesSeen → Change → ℕ → Desk → Desk
 remade dests templates change next d = record d { dests = dests; templates = templates; change = change; next_entry = next }
 
 abbrev stated : State → List Dest → List Entry → ℕ → State
@@ -52,17 +52,17 @@ pub templates_of_rows : (es : List Entry) (ts : List Template) → templates_of 
 templates_of_rows es [] = refl
 templates_of_rows es (t ∷ ts) = ap (λ (rest : List Template). t ∷ rest) (templates_of_rows es ts)
 
-pub remade_state : (whole : State) (d : Desk) (dests : DestsSeen) (templates : List TemplateRow) (change : Change) (next : ℕ) (ds : List Dest) (es : List Entry)
-    → dests ≡ with_rows d.dests (map (row_of es (templates_of d.templates)) ds) → templates ≡ map (template_row es) (templates_of d.templates) → after (is_swept whole d.bucket) change whole.entries ≡ es
+pub remade_state : (whole : State) (d : Desk) (dests : DestsSeen) (templates : TemplatesSeen) (change : Change) (next : ℕ) (ds : List Dest) (es : List Entry)
+    → dests ≡ with_rows d.dests (map (row_of es (templates_of d.templates.rows)) ds) → templates.rows ≡ map (template_row es) (templates_of d.templates.rows) → after (is_swept whole d.bucket) change whole.entries ≡ es
     → state_of whole (remade dests templates change next d) ≡ stated (state_of whole d) ds es next
 remade_state whole d dests templates change next ds es rows controls entries =
     ap (λ (seen : DestsSeen). state_of whole (remade seen templates change next d)) rows
-    ∙ ap (λ (others : List Dest). record (state_of whole (remade d.dests templates change next d)) { dests = others }) (dests_of_rows es (templates_of d.templates) ds)
-    ∙ ap (λ (ts : List Template). record (stated (state_of whole d) ds (after (is_swept whole d.bucket) change whole.entries) next) { templates = ts }) (ap templates_of controls ∙ templates_of_rows es (templates_of d.templates))
+    ∙ ap (λ (others : List Dest). record (state_of whole (remade d.dests templates change next d)) { dests = others }) (dests_of_rows es (templates_of d.templates.rows) ds)
+    ∙ ap (λ (ts : List Template). record (stated (state_of whole d) ds (after (is_swept whole d.bucket) change whole.entries) next) { templates = ts }) (ap templates_of controls ∙ templates_of_rows es (templates_of d.templates.rows))
     ∙ ap (λ (others : List Entry). stated (state_of whole d) ds others next) entries
 
-pub remade_sound : (whole : State) (d : Desk) (dests : DestsSeen) (templates : List TemplateRow) (change : Change) (next : ℕ) (ds : List Dest) (es : List Entry)
-    → dests ≡ with_rows d.dests (map (row_of es (templates_of d.templates)) ds) → templates ≡ map (template_row es) (templates_of d.templates) → after (is_swept whole d.bucket) change whole.entries ≡ es
+pub remade_sound : (whole : State) (d : Desk) (dests : DestsSeen) (templates : TemplatesSeen) (change : Change) (next : ℕ) (ds : List Dest) (es : List Entry)
+    → dests ≡ with_rows d.dests (map (row_of es (templates_of d.templates.rows)) ds) → templates.rows ≡ map (template_row es) (templates_of d.templates.rows) → after (is_swept whole d.bucket) change whole.entries ≡ es
     → AreFew (stated (state_of whole d) ds es next) → IsOfItem whole d.home change → whole.next_entry ≤ next → IsSound whole (remade dests templates change next d)
 remade_sound whole d dests templates change next ds es rows controls entries few of_item later =
     let is = sym (remade_state whole d dests templates change next ds es rows controls entries) in
@@ -94,36 +94,36 @@ can_leave whole d e sound holds = λ id names.
     subst (λ (rows : List DestRow). IfSome (row_at id rows) (λ row. 0 < named (is_active e.state) row)) (sym sound.totals.servers)
     (leaving_at (state_of whole d).entries (state_of whole d).templates e id (state_of whole d).dests sound.few.entries_apart holds.found names)
 
-pub can_lessen : (whole : State) (d : Desk) (e : Entry) → IsSound whole d → Holds whole d e → IsControlledAt e d.templates
+pub can_lessen : (whole : State) (d : Desk) (e : Entry) → IsSound whole d → Holds whole d e → IsControlledAt e d.templates.rows
 can_lessen whole d e sound holds =
     subst (IsControlledAt e) (sym sound.totals.controls) (is_controlled (state_of whole d).entries e (state_of whole d).templates sound.few.entries_apart holds.found)
 
-abbrev EndedDesk : State → Desk → DestsSeen → List TemplateRow → Change → Entry → Type 0
-EndedDesk whole d dests templates change e = (dests ≡ with_rows d.dests (map (end_one e) d.dests.rows)) × (templates ≡ map (less_one e) d.templates) × (change ≡ with_end e.id d.change)
+abbrev EndedDesk : State → Desk → DestsSeen → TemplatesSeen → Change → Entry → Type 0
+EndedDesk whole d dests templates change e = (dests ≡ with_rows d.dests (map (end_one e) d.dests.rows)) × (templates.rows ≡ map (less_one e) d.templates.rows) × (change ≡ with_end e.id d.change)
 
 end_entries : (whole : State) (d : Desk) (change : Change) (e : Entry) → IsSound whole d → Holds whole d e → change ≡ with_end e.id d.change → after (is_swept whole d.bucket) change whole.entries ≡ left_by e (state_of whole d).entries
 end_entries whole d change e sound holds is =
     ap (λ (c : Change). after (is_swept whole d.bucket) c whole.entries) is ∙ sym (leave_after (is_swept whole d.bucket) d.home d.change e.id whole.entries sound.few.entries_apart holds.about)
 
 end_dests : (whole : State) (d : Desk) (dests : DestsSeen) (e : Entry) → IsSound whole d → Holds whole d e → dests ≡ with_rows d.dests (map (end_one e) d.dests.rows)
-    → dests ≡ with_rows d.dests (map (row_of (left_by e (state_of whole d).entries) (templates_of d.templates)) (end_entry e (state_of whole d)).dests)
+    → dests ≡ with_rows d.dests (map (row_of (left_by e (state_of whole d).entries) (templates_of d.templates.rows)) (end_entry e (state_of whole d)).dests)
 end_dests whole d dests e sound holds is =
     let s = state_of whole d in
     is ∙ ap (with_rows d.dests) (ap (map (end_one e)) sound.totals.servers ∙ end_rows_by s.entries s.templates e s.dests e.server (sound.few.entries_apart, sound.few.dests_apart) holds.found refl)
 
-end_controls : (whole : State) (d : Desk) (templates : List TemplateRow) (e : Entry) → IsSound whole d → Holds whole d e → templates ≡ map (less_one e) d.templates
-    → templates ≡ map (template_row (left_by e (state_of whole d).entries)) (templates_of d.templates)
+end_controls : (whole : State) (d : Desk) (templates : TemplatesSeen) (e : Entry) → IsSound whole d → Holds whole d e → templates.rows ≡ map (less_one e) d.templates.rows
+    → templates.rows ≡ map (template_row (left_by e (state_of whole d).entries)) (templates_of d.templates.rows)
 end_controls whole d templates e sound holds is =
     let s = state_of whole d in
     is ∙ ap (map (less_one e)) sound.totals.controls ∙ less_rows s.entries e s.templates sound.few.entries_apart holds.found
 
-pub end_state : (whole : State) (d : Desk) (dests : DestsSeen) (templates : List TemplateRow) (change : Change) (e : Entry) → IsSound whole d → Holds whole d e → EndedDesk whole d dests templates change e
+pub end_state : (whole : State) (d : Desk) (dests : DestsSeen) (templates : TemplatesSeen) (change : Change) (e : Entry) → IsSound whole d → Holds whole d e → EndedDesk whole d dests templates change e
     → state_of whole (remade dests templates change d.next_entry d) ≡ end_entry e (state_of whole d)
 end_state whole d dests templates change e sound holds made =
     let s = state_of whole d in
     remade_state whole d dests templates change d.next_entry (end_entry e s).dests (left_by e s.entries) (end_dests whole d dests e sound holds made.0) (end_controls whole d templates e sound holds made.1) (end_entries whole d change e sound holds made.2)
 
-pub end_sound : (whole : State) (d : Desk) (dests : DestsSeen) (templates : List TemplateRow) (change : Change) (e : Entry) → IsSound whole d → Holds whole d e → EndedDesk whole d dests templates change e
+pub end_sound : (whole : State) (d : Desk) (dests : DestsSeen) (templates : TemplatesSeen) (change : Change) (e : Entry) → IsSound whole d → Holds whole d e → EndedDesk whole d dests templates change e
     → IsSound whole (remade dests templates change d.next_entry d)
 end_sound whole d dests templates change e sound holds made =
     let s = state_of whole d in
@@ -154,9 +154,9 @@ put_of_item whole d change x v sound holds same keys is =
     (updated_of_item (is_swept whole d.bucket) whole d.home d.change x v sound.of_item (about_as d x v holds.about same) (found_as (state_of whole d).entries x v holds.found same) (sym keys))
 
 abbrev PutDests : State → Desk → DestsSeen → Entry → Type 0
-PutDests whole d dests v = dests ≡ with_rows d.dests (map (row_of (put_entry v (state_of whole d).entries) (templates_of d.templates)) (state_of whole d).dests)
+PutDests whole d dests v = dests ≡ with_rows d.dests (map (row_of (put_entry v (state_of whole d).entries) (templates_of d.templates.rows)) (state_of whole d).dests)
 
-put_controls : (whole : State) (d : Desk) (x v : Entry) → IsSound whole d → Holds whole d x → v.id ≡ x.id → v.template ≡ x.template → d.templates ≡ map (template_row (put_entry v (state_of whole d).entries)) (templates_of d.templates)
+put_controls : (whole : State) (d : Desk) (x v : Entry) → IsSound whole d → Holds whole d x → v.id ≡ x.id → v.template ≡ x.template → d.templates.rows ≡ map (template_row (put_entry v (state_of whole d).entries)) (templates_of d.templates.rows)
 put_controls whole d x v sound holds same made =
     let s = state_of whole d in
     sound.totals.controls ∙ kept_controls s.entries x v s.templates (found_as s.entries x v holds.found same) made
@@ -175,7 +175,7 @@ put_sound whole d dests change x v sound holds names rows is =
     (put_few s x v sound.few (found_as s.entries x v holds.found names.id) names.id) (put_of_item whole d change x v sound holds names.id names.key is) sound.later
 
 -- the desk holds what was put
-holds_by : (whole : State) (d : Desk) (dests : DestsSeen) (templates : List TemplateRow) (change : Change) (next : ℕ) (x v : Entry) → IsSound whole d → Holds whole d x → v.id ≡ x.id → change ≡ with_update v d.change
+holds_by : (whole : State) (d : Desk) (dests : DestsSeen) (templates : TemplatesSeen) (change : Change) (next : ℕ) (x v : Entry) → IsSound whole d → Holds whole d x → v.id ≡ x.id → change ≡ with_update v d.change
     → Holds whole (remade dests templates change next d) v
 holds_by whole d dests templates change next x v sound holds same is = record {
   found = subst (λ (es : List Entry). find (has_entry_id v.id) es ≡ Some v) (sym (put_entries whole d change x v sound holds same is))
@@ -199,7 +199,7 @@ can_come whole d v sound = λ id names.
     (room_at s.entries s.templates id s.dests (omega (arith, sound.few.few, sound.few.young)) (omega (arith, sound.few.few_templates, sound.few.young_templates)))
 
 come_dests : (whole : State) (d : Desk) (dests : DestsSeen) (later : List Entry) (v : Entry) (id : DestId) → IsSound whole d → CountsMore (state_of whole d).entries later v → v.server ≡ Some id
-    → dests ≡ with_rows d.dests (map (come_one v) d.dests.rows) → dests ≡ with_rows d.dests (map (row_of later (templates_of d.templates)) (count_bound id later (state_of whole d).dests))
+    → dests ≡ with_rows d.dests (map (come_one v) d.dests.rows) → dests ≡ with_rows d.dests (map (row_of later (templates_of d.templates.rows)) (count_bound id later (state_of whole d).dests))
 come_dests whole d dests later v id sound more names is =
     let s = state_of whole d in
     is ∙ ap (with_rows d.dests) (ap (map (come_one v)) sound.totals.servers ∙ come_rows s.entries later s.templates v id s.dests more sound.few.dests_apart names)
@@ -213,7 +213,7 @@ pair_of e s = (e, s)
 
 bind_dests : (whole : State) (d : Desk) (dests : DestsSeen) (e : Entry) (server : Dest) → IsSound whole d → Holds whole d e → e.server ≡ None
     → dests ≡ with_rows d.dests (map (come_one (bound_to server e)) d.dests.rows)
-    → dests ≡ with_rows d.dests (map (row_of (put_entry (bound_to server e) (state_of whole d).entries) (templates_of d.templates)) (bound_state e server (state_of whole d)).dests)
+    → dests ≡ with_rows d.dests (map (row_of (put_entry (bound_to server e) (state_of whole d).entries) (templates_of d.templates.rows)) (bound_state e server (state_of whole d)).dests)
 bind_dests whole d dests e server sound holds none is =
     let s = state_of whole d in
     come_dests whole d dests (put_entry (bound_to server e) s.entries) (bound_to server e) server.id sound (put_counts s.entries e (bound_to server e) holds.found none) refl is
@@ -250,7 +250,7 @@ bound_holds whole d dests change e v server same sound holds made = holds_by who
 
 -- A NEW ENTRY
 
-pub can_be_made : (whole : State) (d : Desk) (v : Entry) → IsSound whole d → CanControl v d.templates
+pub can_be_made : (whole : State) (d : Desk) (v : Entry) → IsSound whole d → CanControl v d.templates.rows
 can_be_made whole d v sound =
     let s = state_of whole d in
     subst (CanControl v) (sym sound.totals.controls) (can_control s.entries v s.templates (omega (arith, sound.few.few, sound.few.young)))
@@ -258,7 +258,7 @@ can_be_made whole d v sound =
 enter_entries : (whole : State) (d : Desk) (change : Change) (e : Entry) → IsFree d.change → change ≡ with_entry e d.change → after (is_swept whole d.bucket) change whole.entries ≡ (state_of whole d).entries ++ e ∷ []
 enter_entries whole d change e free is = ap (λ (c : Change). after (is_swept whole d.bucket) c whole.entries) is ∙ sym (enter_after (is_swept whole d.bucket) d.change e whole.entries free)
 
-enter_controls : (whole : State) (d : Desk) (templates : List TemplateRow) (e : Entry) → IsSound whole d → templates ≡ map (more_one e) d.templates → templates ≡ map (template_row ((state_of whole d).entries ++ e ∷ [])) (templates_of d.templates)
+enter_controls : (whole : State) (d : Desk) (templates : TemplatesSeen) (e : Entry) → IsSound whole d → templates.rows ≡ map (more_one e) d.templates.rows → templates.rows ≡ map (template_row ((state_of whole d).entries ++ e ∷ [])) (templates_of d.templates.rows)
 enter_controls whole d templates e sound is =
     let s = state_of whole d in
     is ∙ ap (map (more_one e)) sound.totals.controls ∙ more_rows s.entries e s.templates
@@ -267,19 +267,19 @@ enter_of_item : (whole : State) (d : Desk) (change : Change) (e : Entry) → IsS
 enter_of_item whole d change e sound free drawn is =
     subst (IsOfItem whole d.home) (sym is) (entered_of_item whole d.home d.change e sound.of_item free (subst (λ id. whole.next_entry ≤ id) (sym drawn) sound.later))
 
-pub record EnteredDesk (d : Desk) (dests : DestsSeen) (templates : List TemplateRow) (change : Change) (e : Entry) : Type 0 where
+pub record EnteredDesk (d : Desk) (dests : DestsSeen) (templates : TemplatesSeen) (change : Change) (e : Entry) : Type 0 where
   pub dests_are : dests ≡ with_rows d.dests (map (come_one e) d.dests.rows)
-  pub templates_are : templates ≡ map (more_one e) d.templates
+  pub templates_are : templates.rows ≡ map (more_one e) d.templates.rows
   pub change_is : change ≡ with_entry e d.change
 
-pub entered_state : (whole : State) (d : Desk) (dests : DestsSeen) (templates : List TemplateRow) (change : Change) (e : Entry) (id : DestId) → IsSound whole d → IsFree d.change → e.server ≡ Some id → EnteredDesk d dests templates change e
+pub entered_state : (whole : State) (d : Desk) (dests : DestsSeen) (templates : TemplatesSeen) (change : Change) (e : Entry) (id : DestId) → IsSound whole d → IsFree d.change → e.server ≡ Some id → EnteredDesk d dests templates change e
     → state_of whole (remade dests templates change (d.next_entry + 1) d) ≡ entered e id (state_of whole d)
 entered_state whole d dests templates change e id sound free names made =
     let s = state_of whole d in
     remade_state whole d dests templates change (d.next_entry + 1) (count_bound id (s.entries ++ e ∷ []) s.dests) (s.entries ++ e ∷ [])
     (come_dests whole d dests (s.entries ++ e ∷ []) e id sound (pushed_counts s.entries e) names made.dests_are) (enter_controls whole d templates e sound made.templates_are) (enter_entries whole d change e free made.change_is)
 
-pub entered_sound : (whole : State) (d : Desk) (dests : DestsSeen) (templates : List TemplateRow) (change : Change) (e : Entry) (id : DestId) → IsSound whole d → IsFree d.change → e.server ≡ Some id → e.id ≡ d.next_entry → d.next_entry < 2 ^ 62
+pub entered_sound : (whole : State) (d : Desk) (dests : DestsSeen) (templates : TemplatesSeen) (change : Change) (e : Entry) (id : DestId) → IsSound whole d → IsFree d.change → e.server ≡ Some id → e.id ≡ d.next_entry → d.next_entry < 2 ^ 62
     → EnteredDesk d dests templates change e → IsSound whole (remade dests templates change (d.next_entry + 1) d)
 entered_sound whole d dests templates change e id sound free names drawn young made =
     let s = state_of whole d in
@@ -289,23 +289,23 @@ entered_sound whole d dests templates change e id sound free names drawn young m
 
 -- A NEW ENTRY WITHOUT A SERVER
 
-pub record AppendedDesk (d : Desk) (templates : List TemplateRow) (change : Change) (e : Entry) : Type 0 where
-  pub templates_are : templates ≡ map (more_one e) d.templates
+pub record AppendedDesk (d : Desk) (templates : TemplatesSeen) (change : Change) (e : Entry) : Type 0 where
+  pub templates_are : templates.rows ≡ map (more_one e) d.templates.rows
   pub change_is : change ≡ with_entry e d.change
 
-append_dests : (whole : State) (d : Desk) (e : Entry) → IsSound whole d → e.server ≡ None → d.dests ≡ with_rows d.dests (map (row_of ((state_of whole d).entries ++ e ∷ []) (templates_of d.templates)) (state_of whole d).dests)
+append_dests : (whole : State) (d : Desk) (e : Entry) → IsSound whole d → e.server ≡ None → d.dests ≡ with_rows d.dests (map (row_of ((state_of whole d).entries ++ e ∷ []) (templates_of d.templates.rows)) (state_of whole d).dests)
 append_dests whole d e sound none =
     let s = state_of whole d in
     ap (with_rows d.dests) (sound.totals.servers ∙ appended_rows s.entries s.templates e s.dests none)
 
-pub appended_state : (whole : State) (d : Desk) (templates : List TemplateRow) (change : Change) (e : Entry) → IsSound whole d → IsFree d.change → e.server ≡ None → AppendedDesk d templates change e
+pub appended_state : (whole : State) (d : Desk) (templates : TemplatesSeen) (change : Change) (e : Entry) → IsSound whole d → IsFree d.change → e.server ≡ None → AppendedDesk d templates change e
     → state_of whole (remade d.dests templates change (d.next_entry + 1) d) ≡ appended e (state_of whole d)
 appended_state whole d templates change e sound free none made =
     let s = state_of whole d in
     remade_state whole d d.dests templates change (d.next_entry + 1) s.dests (s.entries ++ e ∷ [])
     (append_dests whole d e sound none) (enter_controls whole d templates e sound made.templates_are) (enter_entries whole d change e free made.change_is)
 
-pub appended_sound : (whole : State) (d : Desk) (templates : List TemplateRow) (change : Change) (e : Entry) → IsSound whole d → IsFree d.change → e.server ≡ None → e.id ≡ d.next_entry → d.next_entry < 2 ^ 62
+pub appended_sound : (whole : State) (d : Desk) (templates : TemplatesSeen) (change : Change) (e : Entry) → IsSound whole d → IsFree d.change → e.server ≡ None → e.id ≡ d.next_entry → d.next_entry < 2 ^ 62
     → AppendedDesk d templates change e → IsSound whole (remade d.dests templates change (d.next_entry + 1) d)
 appended_sound whole d templates change e sound free none drawn young made =
     let s = state_of whole d in
@@ -313,7 +313,7 @@ appended_sound whole d templates change e sound free none drawn young made =
     (append_dests whole d e sound none) (enter_controls whole d templates e sound made.templates_are) (enter_entries whole d change e free made.change_is)
     (append_few s e sound.few drawn young) (enter_of_item whole d change e sound free drawn made.change_is) (omega (arith, sound.later))
 
-pub appended_holds : (whole : State) (d : Desk) (templates : List TemplateRow) (change : Change) (e : Entry) → IsSound whole d → IsFree d.change → e.id ≡ d.next_entry → AppendedDesk d templates change e
+pub appended_holds : (whole : State) (d : Desk) (templates : TemplatesSeen) (change : Change) (e : Entry) → IsSound whole d → IsFree d.change → e.id ≡ d.next_entry → AppendedDesk d templates change e
     → Holds whole (remade d.dests templates change (d.next_entry + 1) d) e
 appended_holds whole d templates change e sound free drawn made = record {
   found = subst (λ (es : List Entry). find (has_entry_id e.id) es ≡ Some e) (sym (enter_entries whole d change e free made.change_is))

@@ -29,7 +29,7 @@ seen_of d = record {
   daemons = d.daemons;
   services = d.services;
   dests = d.dests;
-  templates = d.templates;
+  templates = d.templates.rows;
   pending = d.pending.items;
   next_entry = d.next_entry;
   next_template = d.next_template;
@@ -107,7 +107,7 @@ Serves desk d = dest_at d.id (dests_of desk.dests.rows) ≡ Some d
 
 -- the template is the one of its key
 abbrev pub Gives : Desk → Template → Type 0
-Gives desk t = template_at t.key (templates_of desk.templates) ≡ Some t
+Gives desk t = template_at t.key (templates_of desk.templates.rows) ≡ Some t
 
 abbrev pub with_change : Change → Desk → Desk
 with_change change d = record d { change = change }

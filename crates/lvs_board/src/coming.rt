@@ -19,8 +19,9 @@ pub(crate) fn come_to_server(dests: &mut Dests, e: &Entry)
 
 /// The entry counts at the template that made it.
 pub(crate) fn come_to_template(templates: &mut Templates, e: &Entry)
-    requires { CanControl e.now templates.old }
-    ensures { templates.new ≡ map (more_one e.now) templates.old }
+    requires { CanControl e.now templates.old.rows }
+    ensures rows { templates.new.rows ≡ map (more_one e.now) templates.old.rows }
+    ensures spare { templates.new.spare ≡ templates.old.spare }
 {
     if let Some(id) = e.template {
         templates.control(id);

@@ -35,6 +35,7 @@ impl Desk {
         ensures state { state_of W.whole self.new ≡ end_entry e.now (state_of W.whole self.old) }
         ensures sound { IsSound W.whole self.new }
         ensures free { IsFree self.new.change }
+        ensures spare { self.new.templates.spare ≡ self.old.templates.spare }
         ensures rest { self.new ≡ record self.old { dests = self.new.dests; templates = self.new.templates; change = self.new.change } }
     {
         leave_server(&mut self.dests, e);

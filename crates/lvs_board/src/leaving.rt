@@ -19,8 +19,9 @@ pub(crate) fn leave_server(dests: &mut Dests, e: &Entry)
 
 /// The entry leaves the template that made it.
 pub(crate) fn leave_template(templates: &mut Templates, e: &Entry)
-    requires { IsControlledAt e.now templates.old }
-    ensures { templates.new ≡ map (less_one e.now) templates.old }
+    requires { IsControlledAt e.now templates.old.rows }
+    ensures rows { templates.new.rows ≡ map (less_one e.now) templates.old.rows }
+    ensures spare { templates.new.spare ≡ templates.old.spare }
 {
     if let Some(id) = e.template {
         templates.uncontrol(id);
@@ -39,8 +40,9 @@ pub(crate) fn leave_servers(dests: &mut Dests, due: &[Entry])
 
 /// Each of the entries leaves the template that made it.
 pub(crate) fn leave_templates(templates: &mut Templates, due: &[Entry])
-    requires { CanLessen due.now templates.old }
-    ensures { templates.new ≡ map (lessens_row due.now) templates.old }
+    requires { CanLessen due.now templates.old.rows }
+    ensures rows { templates.new.rows ≡ map (lessens_row due.now) templates.old.rows }
+    ensures spare { templates.new.spare ≡ templates.old.spare }
 {
     for e in due {
         leave_template(templates, e);

@@ -1,6 +1,5 @@
 //! The board: all that a director keeps but the entries.
 #![tactic(auto)]
-// READ /work/c/board2/NOTE-SPLIT.md: services, templates, numbers, room, pending, reaping come from /work/c/board3.
 
 mod board;
 mod changing;
