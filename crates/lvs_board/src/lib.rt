@@ -9,5 +9,6 @@ mod entries;
 mod leaving;
 mod lookups;
 mod moving;
+mod numbers;
 
 pub use board::Board;
