@@ -14,3 +14,4 @@ pub mod Kept
 pub mod Desks
 pub mod Items
 pub mod Known
+pub mod FirstGone

@@ -10,5 +10,6 @@ mod leaving;
 mod lookups;
 mod moving;
 mod numbers;
+mod services;
 
 pub use board::Board;
