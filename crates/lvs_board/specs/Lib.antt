@@ -2,3 +2,4 @@ pub mod Seen
 pub mod Stands
 pub mod Desks
 pub mod Endings
+pub mod Rooms

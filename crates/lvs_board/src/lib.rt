@@ -10,6 +10,8 @@ mod leaving;
 mod lookups;
 mod moving;
 mod numbers;
+mod pending;
+mod room;
 mod services;
 
 pub use board::Board;
