@@ -15,3 +15,4 @@ pub mod Desks
 pub mod Items
 pub mod Known
 pub mod FirstGone
+pub mod Holds

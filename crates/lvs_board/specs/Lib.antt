@@ -3,3 +3,4 @@ pub mod Stands
 pub mod Desks
 pub mod Endings
 pub mod Rooms
+pub mod Held

@@ -6,6 +6,7 @@ mod changing;
 mod coming;
 mod desk;
 mod entries;
+mod holding;
 mod leaving;
 mod lookups;
 mod moving;
