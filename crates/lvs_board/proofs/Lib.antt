@@ -16,3 +16,4 @@ pub mod Items
 pub mod Known
 pub mod FirstGone
 pub mod Holds
+pub mod Templating

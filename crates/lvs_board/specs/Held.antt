@@ -11,6 +11,11 @@ abbrev pub held_by : Option Template → Option DestId
 held_by None = None
 held_by (Some t) = t.server
 
+-- the server that a template names now, where it named none before
+abbrev pub newly_named : Option DestId → Option DestId → Option DestId
+newly_named None after = after
+newly_named (Some id) after = None
+
 abbrev pub hold_one : Option DestId → DestRow → DestRow
 hold_one server row = cond (dest_eq server row.dest.id) (held row) row
 

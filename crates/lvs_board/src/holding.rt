@@ -1,6 +1,6 @@
 //! Templates hold the servers that they name.
 ghost use Rattle.std.specs.Prelude.{◌≡◌, map};
-ghost use Rattle.lvs_board.specs.Held.{CanHold, CanUnhold, IsHeldAt, hold_one, unhold_one, unholds_row, held_by};
+ghost use Rattle.lvs_board.specs.Held.{CanHold, CanUnhold, IsHeldAt, hold_one, unhold_one, unholds_row, held_by, newly_named};
 
 use lvs_dests::Dests;
 use lvs_types::{DestId, Template};
@@ -12,6 +12,16 @@ pub(crate) fn server_held(t: Option<Template>) -> Option<DestId>
     match t {
         Some(t) => t.server,
         None => None,
+    }
+}
+
+/// The server that a template names now and didn't name before, if there is one.
+pub(crate) fn newly_held(before: &Template, after: &Template) -> Option<DestId>
+    ensures { result ≡ newly_named before.now.server after.now.server }
+{
+    match before.server {
+        None => after.server,
+        Some(_) => None,
     }
 }
 

@@ -14,5 +14,6 @@ mod numbers;
 mod pending;
 mod room;
 mod services;
+mod templates;
 
 pub use board::Board;
