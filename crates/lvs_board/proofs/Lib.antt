@@ -17,3 +17,4 @@ pub mod Known
 pub mod FirstGone
 pub mod Holds
 pub mod Templating
+pub mod Reaps

@@ -12,6 +12,7 @@ mod lookups;
 mod moving;
 mod numbers;
 mod pending;
+mod reaping;
 mod room;
 mod services;
 mod templates;
