@@ -2,6 +2,7 @@
 use Rattle.std.proofs.Common.{◌≡◌, ◌≤◌, ℕ, Bool, true, false, cond, not, List, [], ◌∷◌, ◌++◌, Option, Some, None, refl, sym, ap, subst, ◌∙◌, nat_eq}
 use Rattle.std.specs.Prelude.{IfSome}
 use Rattle.std.specs.List.{AllByRecursion, IsDistinct, find}
+use Rattle.lvs_types.specs.declared.addr.TemplateId.{TemplateId}
 use Rattle.lvs_types.specs.declared.entry.Key.{Key}
 use Rattle.lvs_types.specs.declared.entry.Entry.{Entry}
 use Rattle.lvs_model.specs.State.{State}
@@ -14,7 +15,7 @@ use Rattle.lvs_model.specs.WellFormed.{entry_ids}
 use Rattle.lvs_well_formed.proofs.Keys.{nat_same}
 use Rattle.lvs_well_formed.proofs.Distinct.{distinct_parts}
 use Rattle.lvs_well_formed.proofs.Finds.{find_put}
-use Rattle.lvs_board.specs.Desks.{after, IsAbout, IsFree, IsKeyed, IsOfItem, with_entry, with_update, with_end}
+use Rattle.lvs_board.specs.Desks.{after, IsAbout, IsFree, IsKeyed, IsOfItem, origin, with_entry, with_update, with_end}
 
 twice_step : {X : Type 0} (p : X → Bool) (u v x : X) (b : Bool) (xs once put : List X) → p x ≡ b → p u ≡ true → update_first p (λ _. v) once ≡ put
     → update_first p (λ _. v) (cond b (u ∷ xs) (x ∷ once)) ≡ cond b (v ∷ xs) (x ∷ put)
@@ -136,26 +137,26 @@ free_after home (EndDue moment) id about = absurd about
 some_same : {X : Type 0} (x y : X) → Some x ≡ Some y → x ≡ y
 some_same x y is = cc
 
-keyed_by : (key : Key) (id : ℕ) (es : List Entry) (x : Entry) (o : Option Entry) → find (has_entry_id id) es ≡ o → o ≡ Some x → x.key ≡ key → IsKeyed key id es
-keyed_by key id es x o is found same = subst (λ (p : Option Entry). IfSome p (λ (e : Entry). e.key ≡ key)) (sym (is ∙ found)) same
+keyed_by : (key : Key × Option TemplateId) (id : ℕ) (es : List Entry) (x : Entry) (o : Option Entry) → find (has_entry_id id) es ≡ o → o ≡ Some x → origin x ≡ key → IsKeyed key id es
+keyed_by key id es x o is found same = subst (λ (p : Option Entry). IfSome p (λ (e : Entry). origin e ≡ key)) (sym (is ∙ found)) same
 
 found_put : (u x : Entry) (es : List Entry) (y : Entry) → find (has_entry_id u.id) es ≡ Some y → find (has_entry_id u.id) (put_entry u es) ≡ Some x → u ≡ x
 found_put u x es y there found = let put = find_put (has_entry_id u.id) u es y there (nat_same u.id) in some_same u x (sym put ∙ found)
 
-rekeyed_by : (u x v : Entry) (es : List Entry) (o : Option Entry) → find (has_entry_id u.id) es ≡ o → IfSome o (λ (e : Entry). e.key ≡ u.key) → find (has_entry_id u.id) (put_entry u es) ≡ Some x → x.key ≡ v.key → IsKeyed v.key u.id es
-rekeyed_by u x v es None is keyed found same = subst (λ (p : Option Entry). IfSome p (λ (e : Entry). e.key ≡ v.key)) (sym is) tt
+rekeyed_by : (u x v : Entry) (es : List Entry) (o : Option Entry) → find (has_entry_id u.id) es ≡ o → IfSome o (λ (e : Entry). origin e ≡ origin u) → find (has_entry_id u.id) (put_entry u es) ≡ Some x → origin x ≡ origin v → IsKeyed (origin v) u.id es
+rekeyed_by u x v es None is keyed found same = subst (λ (p : Option Entry). IfSome p (λ (e : Entry). origin e ≡ origin v)) (sym is) tt
 rekeyed_by u x v es (Some y) is keyed found same =
-    subst (λ (p : Option Entry). IfSome p (λ (e : Entry). e.key ≡ v.key)) (sym is) (keyed ∙ ap (λ (e : Entry). e.key) (found_put u x es y is found) ∙ same)
+    subst (λ (p : Option Entry). IfSome p (λ (e : Entry). origin e ≡ origin v)) (sym is) (keyed ∙ ap origin (found_put u x es y is found) ∙ same)
 
-rekeyed : (u x v : Entry) (es : List Entry) → u.id ≡ v.id → IsKeyed u.key u.id es → find (has_entry_id v.id) (put_entry u es) ≡ Some x → x.key ≡ v.key → IsKeyed v.key u.id es
+rekeyed : (u x v : Entry) (es : List Entry) → u.id ≡ v.id → IsKeyed (origin u) u.id es → find (has_entry_id v.id) (put_entry u es) ≡ Some x → origin x ≡ origin v → IsKeyed (origin v) u.id es
 rekeyed u x v es ids keyed found same = rekeyed_by u x v es (find (has_entry_id u.id) es) refl keyed (subst (λ id. find (has_entry_id id) (put_entry u es) ≡ Some x) (sym ids) found) same
 
-pub updated_of_item : (p : Entry → Bool) (whole : State) (home : Option ℕ) (change : Change) (x v : Entry) → IsOfItem whole home change → IsAbout home v.id change → find (has_entry_id v.id) (after p change whole.entries) ≡ Some x → x.key ≡ v.key
+pub updated_of_item : (p : Entry → Bool) (whole : State) (home : Option ℕ) (change : Change) (x v : Entry) → IsOfItem whole home change → IsAbout home v.id change → find (has_entry_id v.id) (after p change whole.entries) ≡ Some x → origin x ≡ origin v
     → IsOfItem whole home (with_update v change)
-updated_of_item p whole home Keep x v of about found same = (about, keyed_by v.key v.id whole.entries x (Some x) found refl same)
+updated_of_item p whole home Keep x v of about found same = (about, keyed_by (origin v) v.id whole.entries x (Some x) found refl same)
 updated_of_item p whole home (Put e) x v of about found same = subst (λ id. whole.next_entry ≤ id) about of
 updated_of_item p whole home (Update u) x v of about found same =
-    (about.1, subst (λ id. IsKeyed v.key id whole.entries) about.0 (rekeyed u x v whole.entries about.0 of.1 found same))
+    (about.1, subst (λ id. IsKeyed (origin v) id whole.entries) about.0 (rekeyed u x v whole.entries about.0 of.1 found same))
 updated_of_item p whole home (End id) x v of about found same = absurd about
 updated_of_item p whole home (Swap id e) x v of about found same = (of.0, subst (λ n. whole.next_entry ≤ n) about of.1)
 updated_of_item p whole home (EndDue moment) x v of about found same = absurd about

@@ -3,6 +3,8 @@ use Rattle.std.proofs.Common.{◌≡◌, ◌+◌, ◌<◌, ◌≤◌, ◌^◌, �
 use Rattle.std.specs.Prelude.{IfSome}
 use Rattle.std.specs.List.{IsDistinct, find}
 use Rattle.lvs_types.specs.declared.addr.DestId.{DestId}
+use Rattle.lvs_types.specs.declared.addr.TemplateId.{TemplateId}
+use Rattle.lvs_types.specs.declared.entry.Key.{Key}
 use Rattle.lvs_types.specs.declared.dest.Dest.{Dest}
 use Rattle.lvs_types.specs.declared.dest.DestRow.{DestRow}
 use Rattle.lvs_types.specs.declared.entry.Entry.{Entry}
@@ -26,7 +28,7 @@ use Rattle.lvs_well_formed.proofs.Finds.{find_put, find_last}
 use Rattle.lvs_well_formed.proofs.Lists.{all_weaker}
 use Rattle.lvs_board.specs.declared.desk.Desk.{Desk}
 use Rattle.lvs_board.specs.Stands.{AreTotalled}
-use Rattle.lvs_board.specs.Desks.{after, seen_of, state_of, AreFew, IsSound, IsOfItem, IsAbout, Holds, IsFree, CountsMore, with_entry, with_update, with_end}
+use Rattle.lvs_board.specs.Desks.{after, seen_of, state_of, AreFew, IsSound, IsLater, IsOfItem, IsAbout, Holds, IsFree, CountsMore, with_entry, with_update, with_end, origin}
 use Rattle.lvs_board.specs.Endings.{end_one, come_one, less_one, more_one, IsCountedAt, IsControlledAt, CanCome, CanControl, CanMove}
 use Rattle.lvs_board.proofs.Rows.{room_at, some_at}
 use Rattle.lvs_board.proofs.Ends.{dests_of_rows, left_by, ended_rows, free_rows, leaving_at}
@@ -63,7 +65,7 @@ remade_state whole d dests templates change next ds es rows controls entries =
 
 pub remade_sound : (whole : State) (d : Desk) (dests : DestsSeen) (templates : TemplatesSeen) (change : Change) (next : ℕ) (ds : List Dest) (es : List Entry)
     → dests ≡ with_rows d.dests (map (row_of es (templates_of d.templates.rows)) ds) → templates.rows ≡ map (template_row es) (templates_of d.templates.rows) → after (is_swept whole d.bucket) change whole.entries ≡ es
-    → AreFew (stated (state_of whole d) ds es next) → IsOfItem whole d.home change → whole.next_entry ≤ next → IsSound whole (remade dests templates change next d)
+    → AreFew (stated (state_of whole d) ds es next) → IsOfItem whole d.home change → IsLater whole next d.next_template → IsSound whole (remade dests templates change next d)
 remade_sound whole d dests templates change next ds es rows controls entries few of_item later =
     let is = sym (remade_state whole d dests templates change next ds es rows controls entries) in
     record {
@@ -148,7 +150,10 @@ put_entries : (whole : State) (d : Desk) (change : Change) (x v : Entry) → IsS
 put_entries whole d change x v sound holds same is =
     ap (λ (c : Change). after (is_swept whole d.bucket) c whole.entries) is ∙ sym (put_after (is_swept whole d.bucket) d.home d.change v whole.entries sound.few.entries_apart (about_as d x v holds.about same))
 
-put_of_item : (whole : State) (d : Desk) (change : Change) (x v : Entry) → IsSound whole d → Holds whole d x → v.id ≡ x.id → v.key ≡ x.key → change ≡ with_update v d.change → IsOfItem whole d.home change
+same_origin : (x v : Entry) → v.key ≡ x.key → v.template ≡ x.template → origin v ≡ origin x
+same_origin x v keys templates = ap (λ (key : Key). let pair : Key × Option TemplateId = (key, v.template) in pair) keys ∙ ap (λ (made : Option TemplateId). let pair : Key × Option TemplateId = (x.key, made) in pair) templates
+
+put_of_item : (whole : State) (d : Desk) (change : Change) (x v : Entry) → IsSound whole d → Holds whole d x → v.id ≡ x.id → origin v ≡ origin x → change ≡ with_update v d.change → IsOfItem whole d.home change
 put_of_item whole d change x v sound holds same keys is =
     subst (IsOfItem whole d.home) (sym is)
     (updated_of_item (is_swept whole d.bucket) whole d.home d.change x v sound.of_item (about_as d x v holds.about same) (found_as (state_of whole d).entries x v holds.found same) (sym keys))
@@ -172,7 +177,7 @@ pub put_sound : (whole : State) (d : Desk) (dests : DestsSeen) (change : Change)
 put_sound whole d dests change x v sound holds names rows is =
     let s = state_of whole d in
     remade_sound whole d dests d.templates change d.next_entry s.dests (put_entry v s.entries) rows (put_controls whole d x v sound holds names.id names.template) (put_entries whole d change x v sound holds names.id is)
-    (put_few s x v sound.few (found_as s.entries x v holds.found names.id) names.id) (put_of_item whole d change x v sound holds names.id names.key is) sound.later
+    (put_few s x v sound.few (found_as s.entries x v holds.found names.id) names.id) (put_of_item whole d change x v sound holds names.id (same_origin x v names.key names.template) is) sound.later
 
 -- the desk holds what was put
 holds_by : (whole : State) (d : Desk) (dests : DestsSeen) (templates : TemplatesSeen) (change : Change) (next : ℕ) (x v : Entry) → IsSound whole d → Holds whole d x → v.id ≡ x.id → change ≡ with_update v d.change
@@ -263,9 +268,12 @@ enter_controls whole d templates e sound is =
     let s = state_of whole d in
     is ∙ ap (map (more_one e)) sound.totals.controls ∙ more_rows s.entries e s.templates
 
+one_drawn : (whole : State) (next next_template : ℕ) → IsLater whole next next_template → IsLater whole (next + 1) next_template
+one_drawn whole next next_template later = record { entries = omega (arith, later.entries); templates = later.templates; made = later.made }
+
 enter_of_item : (whole : State) (d : Desk) (change : Change) (e : Entry) → IsSound whole d → IsFree d.change → e.id ≡ d.next_entry → change ≡ with_entry e d.change → IsOfItem whole d.home change
 enter_of_item whole d change e sound free drawn is =
-    subst (IsOfItem whole d.home) (sym is) (entered_of_item whole d.home d.change e sound.of_item free (subst (λ id. whole.next_entry ≤ id) (sym drawn) sound.later))
+    subst (IsOfItem whole d.home) (sym is) (entered_of_item whole d.home d.change e sound.of_item free (subst (λ id. whole.next_entry ≤ id) (sym drawn) sound.later.entries))
 
 pub record EnteredDesk (d : Desk) (dests : DestsSeen) (templates : TemplatesSeen) (change : Change) (e : Entry) : Type 0 where
   pub dests_are : dests ≡ with_rows d.dests (map (come_one e) d.dests.rows)
@@ -285,7 +293,7 @@ entered_sound whole d dests templates change e id sound free names drawn young m
     let s = state_of whole d in
     remade_sound whole d dests templates change (d.next_entry + 1) (count_bound id (s.entries ++ e ∷ []) s.dests) (s.entries ++ e ∷ [])
     (come_dests whole d dests (s.entries ++ e ∷ []) e id sound (pushed_counts s.entries e) names made.dests_are) (enter_controls whole d templates e sound made.templates_are) (enter_entries whole d change e free made.change_is)
-    (enter_few s e id sound.few drawn young) (enter_of_item whole d change e sound free drawn made.change_is) (omega (arith, sound.later))
+    (enter_few s e id sound.few drawn young) (enter_of_item whole d change e sound free drawn made.change_is) (one_drawn whole d.next_entry d.next_template sound.later)
 
 -- A NEW ENTRY WITHOUT A SERVER
 
@@ -311,7 +319,7 @@ appended_sound whole d templates change e sound free none drawn young made =
     let s = state_of whole d in
     remade_sound whole d d.dests templates change (d.next_entry + 1) s.dests (s.entries ++ e ∷ [])
     (append_dests whole d e sound none) (enter_controls whole d templates e sound made.templates_are) (enter_entries whole d change e free made.change_is)
-    (append_few s e sound.few drawn young) (enter_of_item whole d change e sound free drawn made.change_is) (omega (arith, sound.later))
+    (append_few s e sound.few drawn young) (enter_of_item whole d change e sound free drawn made.change_is) (one_drawn whole d.next_entry d.next_template sound.later)
 
 pub appended_holds : (whole : State) (d : Desk) (templates : TemplatesSeen) (change : Change) (e : Entry) → IsSound whole d → IsFree d.change → e.id ≡ d.next_entry → AppendedDesk d templates change e
     → Holds whole (remade d.dests templates change (d.next_entry + 1) d) e

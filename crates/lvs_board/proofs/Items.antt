@@ -73,7 +73,11 @@ begins_sound whole d home bucket book steps stands well counted young = record {
   totals = subst (AreTotalled (seen_of d)) (sym stands.tables) stands.totals;
   few = subst AreFew (sym stands.tables) (begins_few whole steps well counted young);
   of_item = tt;
-  later = let same = ap (λ (s : State). s.next_entry) stands.tables in omega (arith, same);
+  later = record {
+    entries = let same = ap (λ (s : State). s.next_entry) stands.tables in omega (arith, same);
+    templates = let same = ap (λ (s : State). s.next_template) stands.tables in omega (arith, same);
+    made = well.entry_templates;
+  };
 }
 
 -- AN ITEM ENDS

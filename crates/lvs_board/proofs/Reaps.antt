@@ -198,7 +198,7 @@ reap_retabled whole d held dests templates gone sound made =
 pub reap_sound : (whole : State) (d : Desk) (held dests : DestsSeen) (templates : TemplatesSeen) (gone : List Template) → IsSound whole d → ReapedDesk d held dests templates gone → IsSound whole (retabled dests templates d.next_template d)
 reap_sound whole d held dests templates gone sound made =
     let s = state_of whole d in
-    retabled_sound whole d dests templates d.next_template (reap s).1.dests (reaped_templates s) sound (reap_retabled whole d held dests templates gone sound made) (reap_few s sound.few)
+    retabled_sound whole d dests templates d.next_template (reap s).1.dests (reaped_templates s) sound (omega arith) (reap_retabled whole d held dests templates gone sound made) (reap_few s sound.few)
 
 pub reap_state : (whole : State) (d : Desk) (held dests : DestsSeen) (templates : TemplatesSeen) (gone : List Template) → IsSound whole d → ReapedDesk d held dests templates gone → state_of whole (retabled dests templates d.next_template d) ≡ (reap (state_of whole d)).1
 reap_state whole d held dests templates gone sound made =

@@ -1,5 +1,5 @@
 -- The state that the desk stands for after a change of its templates.
-use Rattle.std.proofs.Common.{◌≡◌, ◌<◌, ℕ, Bool, true, false, cond, List, [], ◌∷◌, Option, Some, None, refl, sym, ap, subst, ◌∙◌, map, length, arith, nat_eq, suc}
+use Rattle.std.proofs.Common.{◌≡◌, ◌<◌, ◌≤◌, ℕ, Bool, true, false, cond, List, [], ◌∷◌, Option, Some, None, refl, sym, ap, subst, ◌∙◌, map, length, arith, nat_eq, suc}
 use Rattle.std.specs.Prelude.{IfSome, IsSome, IsOk, OnOk, Result, Ok, Err}
 use Rattle.std.specs.Option.{option_map}
 use Rattle.std.specs.List.{IsDistinct, find}
@@ -61,15 +61,15 @@ retabled_state whole d dests templates next ds ts made =
     ∙ ap (λ (others : List Dest). record (state_of whole (retabled d.dests templates next d)) { dests = others }) (dests_of_rows es ts ds)
     ∙ ap (λ (others : List Template). restated (state_of whole d) ds others next) (ap templates_of made.controls ∙ templates_of_rows es ts)
 
-pub retabled_sound : (whole : State) (d : Desk) (dests : DestsSeen) (templates : TemplatesSeen) (next : ℕ) (ds : List Dest) (ts : List Template) → IsSound whole d → Retabled (state_of whole d) d dests templates ds ts
+pub retabled_sound : (whole : State) (d : Desk) (dests : DestsSeen) (templates : TemplatesSeen) (next : ℕ) (ds : List Dest) (ts : List Template) → IsSound whole d → d.next_template ≤ next → Retabled (state_of whole d) d dests templates ds ts
     → AreFew (restated (state_of whole d) ds ts next) → IsSound whole (retabled dests templates next d)
-retabled_sound whole d dests templates next ds ts sound made few =
+retabled_sound whole d dests templates next ds ts sound rises made few =
     let is = sym (retabled_state whole d dests templates next ds ts made) in
     record {
       totals = subst (AreTotalled (seen_of (retabled dests templates next d))) is (record { servers = ap (λ (seen : DestsSeen). seen.rows) made.servers; controls = made.controls });
       few = subst AreFew is few;
       of_item = sound.of_item;
-      later = sound.later;
+      later = record { entries = sound.later.entries; templates = omega (arith, sound.later.templates, rises); made = sound.later.made };
     }
 
 -- LOOK-UPS
@@ -197,7 +197,7 @@ pub put_template_sound : (whole : State) (d : Desk) (dests : DestsSeen) (templat
     → IsSound whole (retabled dests templates d.next_template d)
 put_template_sound whole d dests templates x v sound gives names made =
     let s = state_of whole d in
-    retabled_sound whole d dests templates d.next_template s.dests (put_template v s.templates) sound (put_retabled whole d dests templates x v sound gives names made)
+    retabled_sound whole d dests templates d.next_template s.dests (put_template v s.templates) sound (omega arith) (put_retabled whole d dests templates x v sound gives names made)
     (put_few s x v sound.few (found_by_id s.templates x v sound.few.templates_apart gives names.id) names.id)
 
 at_true : {X : Type 0} (b : Bool) (z : X) (o : Option X) → b ≡ true → cond b (Some z) o ≡ Some z

@@ -2,6 +2,7 @@
 use Rattle.std.specs.Prelude.{◌≡◌, ◌+◌, ◌<◌, ◌≤◌, ◌^◌, ℕ, cond, List, Option, Some, IfSome, length, nat_eq, Bool, [], ◌∷◌, ◌++◌}
 use Rattle.std.specs.List.{AllByRecursion, IsDistinct, find}
 use Rattle.lvs_types.specs.declared.addr.DestId.{DestId}
+use Rattle.lvs_types.specs.declared.addr.TemplateId.{TemplateId}
 use Rattle.lvs_types.specs.declared.dest.Dest.{Dest}
 use Rattle.lvs_types.specs.declared.entry.Key.{Key}
 use Rattle.lvs_types.specs.declared.entry.Entry.{Entry}
@@ -14,7 +15,7 @@ use Rattle.lvs_model.specs.Clock.{is_swept}
 use Rattle.lvs_model.specs.Lists.{without}
 use Rattle.lvs_model.specs.Counts.{active, inactive, counts_active, counts_inactive}
 use Rattle.lvs_model.specs.Lookups.{has_entry_id, dest_at, template_at}
-use Rattle.lvs_model.specs.WellFormed.{entry_ids, dest_ids, template_ids}
+use Rattle.lvs_model.specs.WellFormed.{entry_ids, dest_ids, template_ids, HoldsOlder}
 use Rattle.lvs_dests.specs.Rows.{dests_of}
 use Rattle.lvs_templates.specs.Rows.{templates_of}
 use Rattle.lvs_board.specs.declared.desk.Desk.{Desk}
@@ -60,24 +61,34 @@ pub record AreFew (s : State) : Type 0 where
   pub young : s.next_entry ≤ 2 ^ 62
   pub young_templates : s.next_template ≤ 2 ^ 62
 
--- the entry of that id is there, and has this key
-abbrev pub IsKeyed : Key → ℕ → List Entry → Type 0
-IsKeyed key id entries = IfSome (find (has_entry_id id) entries) (λ (e : Entry). e.key ≡ key)
+-- the key of an entry, and the template that made it
+abbrev pub origin : Entry → Key × Option TemplateId
+origin e = (e.key, e.template)
+
+-- the entry of that id, if it is there, has this origin
+abbrev pub IsKeyed : Key × Option TemplateId → ℕ → List Entry → Type 0
+IsKeyed from id entries = IfSome (find (has_entry_id id) entries) (λ (e : Entry). origin e ≡ from)
 
 -- the change so far is of the entry that was found for the item, and of a new one, whose id was drawn for it
 abbrev pub IsOfItem : State → Option ℕ → Change → Type 0
 IsOfItem whole home Keep = Unit {0}
 IsOfItem whole home (Put e) = whole.next_entry ≤ e.id
-IsOfItem whole home (Update e) = (home ≡ Some e.id) × IsKeyed e.key e.id whole.entries
+IsOfItem whole home (Update e) = (home ≡ Some e.id) × IsKeyed (origin e) e.id whole.entries
 IsOfItem whole home (End id) = home ≡ Some id
 IsOfItem whole home (Swap id e) = (home ≡ Some id) × (whole.next_entry ≤ e.id)
 IsOfItem whole home (EndDue moment) = moment ≡ whole.now
+
+-- ids were drawn since the item began, and no entry was made before its template
+pub record IsLater (whole : State) (next_entry next_template : ℕ) : Type 0 where
+  pub entries : whole.next_entry ≤ next_entry
+  pub templates : whole.next_template ≤ next_template
+  pub made : AllByRecursion (HoldsOlder whole.next_template) whole.entries
 
 pub record IsSound (whole : State) (d : Desk) : Type 0 where
   pub totals : AreTotalled (seen_of d) (state_of whole d)
   pub few : AreFew (state_of whole d)
   pub of_item : IsOfItem whole d.home d.change
-  pub later : whole.next_entry ≤ d.next_entry
+  pub later : IsLater whole d.next_entry d.next_template
 
 -- the entry of this id is that of the item: the one that was found, or the new one
 abbrev pub IsAbout : Option ℕ → ℕ → Change → Type 0
