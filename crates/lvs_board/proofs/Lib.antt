@@ -18,3 +18,4 @@ pub mod FirstGone
 pub mod Holds
 pub mod Templating
 pub mod Reaps
+pub mod Adds

@@ -4,3 +4,4 @@ pub mod Desks
 pub mod Endings
 pub mod Rooms
 pub mod Held
+pub mod Made

@@ -1,6 +1,7 @@
 //! The board: all that a director keeps but the entries.
 #![tactic(auto)]
 
+mod adding;
 mod board;
 mod changing;
 mod coming;
