@@ -19,3 +19,4 @@ pub mod Holds
 pub mod Templating
 pub mod Reaps
 pub mod Adds
+pub mod Listed

@@ -5,3 +5,4 @@ pub mod Endings
 pub mod Rooms
 pub mod Held
 pub mod Made
+pub mod Candidates

@@ -3,6 +3,7 @@
 
 mod adding;
 mod board;
+mod candidates;
 mod changing;
 mod coming;
 mod desk;
@@ -17,5 +18,6 @@ mod reaping;
 mod room;
 mod services;
 mod templates;
+mod servers;
 
 pub use board::Board;
