@@ -20,3 +20,5 @@ pub mod Templating
 pub mod Reaps
 pub mod Adds
 pub mod Listed
+pub mod Holders
+pub mod Due

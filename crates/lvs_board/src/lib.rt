@@ -19,5 +19,6 @@ mod room;
 mod services;
 mod templates;
 mod servers;
+mod sweeping;
 
 pub use board::Board;
