@@ -22,3 +22,4 @@ pub mod Adds
 pub mod Listed
 pub mod Holders
 pub mod Due
+pub mod Others

@@ -5,6 +5,7 @@ ghost use Rattle.lvs_model.specs.Binding.{serves_at};
 ghost use Rattle.lvs_model.specs.Lookups.{dest_at, has_entry_id, is_server_at, is_server_of, servers_of};
 ghost use Rattle.lvs_model.specs.Lists.{without};
 ghost use Rattle.lvs_model.specs.Counts.{total};
+ghost use Rattle.lvs_model.specs.Same.{dest_eq};
 ghost use Rattle.lvs_board.specs.Desks.{state_of, IsSound, Holds, Serves};
 
 use crate::desk::Desk;
@@ -17,6 +18,13 @@ fn nth(candidates: &[Candidate], place: usize) -> Option<Candidate>
     ensures { result ≡ slice_get candidates.now place }
 {
     candidates.get(place).copied()
+}
+
+/// Whether the entry names the server.
+fn names(e: &Entry, id: DestId) -> bool
+    ensures { result ≡ dest_eq e.now.server id }
+{
+    e.server == Some(id)
 }
 
 impl Desk {
@@ -77,5 +85,20 @@ impl Desk {
             return None;
         };
         server_of(&self.dests, candidate.id)
+    }
+
+    /// How many entries but this one name the server, which is there.
+    pub(crate) fn count_others<W: Whole>(&self, e: &Entry, id: DestId) -> u64
+        requires sound { IsSound W.whole self.now }
+        requires holds { Holds W.whole self.now e.now }
+        requires there { is_some (dest_at id (state_of W.whole self.now).dests) ≡ true }
+        ensures value { result ≡ total id (without (has_entry_id e.now.id) (state_of W.whole self.now).entries) }
+        ensures bound { result + 1 < 2 ^ 64 }
+    {
+        let Some(totals) = self.dests.totals(id) else {
+            return 0;
+        };
+        let all = totals.active + totals.inactive;
+        if names(e, id) { all - 1 } else { all }
     }
 }
