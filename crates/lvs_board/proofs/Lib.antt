@@ -23,3 +23,4 @@ pub mod Listed
 pub mod Holders
 pub mod Due
 pub mod Others
+pub mod Placed

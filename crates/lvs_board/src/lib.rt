@@ -18,6 +18,7 @@ mod reaping;
 mod room;
 mod services;
 mod templates;
+mod placing;
 mod servers;
 mod sweeping;
 
