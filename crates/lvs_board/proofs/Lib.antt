@@ -24,3 +24,4 @@ pub mod Holders
 pub mod Due
 pub mod Others
 pub mod Placed
+pub mod Respecified

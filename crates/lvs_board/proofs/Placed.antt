@@ -52,18 +52,23 @@ servers_few s ds next apart few = record {
   young_templates = few.young_templates;
 }
 
+pub replaced_apart : (whole : State) (d : Desk) (seen : DestsSeen) (ds : List Dest) (next : ℕ) → IsSound whole d → seen ≡ rows_at (map (row_of (state_of whole d).entries (state_of whole d).templates) ds) next
+    → IsDistinct nat_eq (dest_ids ds) → IsSound whole (with_dests seen d)
+replaced_apart whole d seen ds next sound is apart =
+    let to = sym (replaced_state whole d seen ds next is) in
+    record {
+      totals = subst (AreTotalled (seen_of (with_dests seen d))) to (record { servers = ap (λ (others : DestsSeen). others.rows) is; controls = sound.totals.controls });
+      few = subst AreFew to (servers_few (state_of whole d) ds next apart sound.few);
+      of_item = sound.of_item;
+      later = sound.later;
+    }
+
 pub replaced_sound : (whole : State) (d : Desk) (seen : DestsSeen) (ds : List Dest) (next : ℕ) → IsSound whole d → seen ≡ rows_at (map (row_of (state_of whole d).entries (state_of whole d).templates) ds) next
     → IsDistinct nat_eq (dest_ids (dests_of seen.rows)) → IsSound whole (with_dests seen d)
 replaced_sound whole d seen ds next sound is apart =
     let s = state_of whole d in
-    let to = sym (replaced_state whole d seen ds next is) in
-    let ids : IsDistinct nat_eq (dest_ids ds) = subst (λ (others : List Dest). IsDistinct nat_eq (dest_ids others)) (ap (λ (others : DestsSeen). dests_of others.rows) is ∙ dests_of_rows s.entries s.templates ds) apart in
-    record {
-      totals = subst (AreTotalled (seen_of (with_dests seen d))) to (record { servers = ap (λ (others : DestsSeen). others.rows) is; controls = sound.totals.controls });
-      few = subst AreFew to (servers_few s ds next ids sound.few);
-      of_item = sound.of_item;
-      later = sound.later;
-    }
+    replaced_apart whole d seen ds next sound is
+    (subst (λ (others : List Dest). IsDistinct nat_eq (dest_ids others)) (ap (λ (others : DestsSeen). dests_of others.rows) is ∙ dests_of_rows s.entries s.templates ds) apart)
 
 -- A SERVER COMES
 

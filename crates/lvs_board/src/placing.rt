@@ -1,13 +1,13 @@
 //! Servers come to the desk, and get another specification.
-ghost use Rattle.std.specs.Prelude.{◌≡◌, ◌≤◌, ◌^◌, true, false, Ok, Err, IfOk, OnOk, OnErr};
+ghost use Rattle.std.specs.Prelude.{◌≡◌, ◌≤◌, ◌^◌, true, false, nat_eq, OnOk, OnErr};
 ghost use Rattle.std.specs.List.{find, list_any, IsDistinct};
-ghost use Rattle.std.specs.Prelude.{nat_eq};
 ghost use Rattle.lvs_types.specs.Thresholds.{has_bad_thresholds};
-ghost use Rattle.lvs_model.specs.Edits.{is_revivable, place_server};
+ghost use Rattle.lvs_model.specs.Edits.{is_revivable, place_server, respecified};
 ghost use Rattle.lvs_model.specs.Counts.{refs};
+ghost use Rattle.lvs_model.specs.Lists.{update_first};
 ghost use Rattle.lvs_model.specs.Lookups.{is_server_at};
-ghost use Rattle.lvs_model.specs.WellFormed.{dest_ids};
-ghost use Rattle.lvs_dests.specs.Rows.{dests_of, is_known, placed};
+ghost use Rattle.lvs_model.specs.WellFormed.{dest_ids, place_eq, places};
+ghost use Rattle.lvs_dests.specs.Rows.{dests_of, edited, is_known, placed};
 ghost use Rattle.lvs_board.specs.Desks.{state_of, IsSound};
 
 use crate::desk::Desk;
@@ -33,6 +33,18 @@ fn place(dests: &mut Dests, key: &ServiceKey, spec: &DestSpec) -> Result<(), NoM
     }
 }
 
+/// The live server at the address and port of the specification gets it.
+fn respecify(dests: &mut Dests, key: &ServiceKey, spec: &DestSpec)
+    requires there { is_known key.now spec.now.addr spec.now.port dests.old.rows ≡ true }
+    requires thresholds { has_bad_thresholds spec.now ≡ false }
+    ensures edited { dests.new ≡ edited key.now spec.now dests.old }
+    ensures places { IsDistinct place_eq (places (dests_of dests.old.rows)) }
+{
+    // Each look-up says that no two stand at one place.
+    let _ = dests.candidates(key);
+    let _ = dests.edit(key, spec);
+}
+
 impl Desk {
     /// A server comes back from the trash, or a new one comes; it stands last. Nothing names the id
     /// that a new one gets.
@@ -52,5 +64,17 @@ impl Desk {
         ensures rest { self.new ≡ record self.old { dests = self.new.dests } }
     {
         place(&mut self.dests, &key, spec)
+    }
+
+    /// The live server at the address and port of the specification gets it.
+    pub(crate) fn respecify_server<W: Whole>(&mut self, key: ServiceKey, spec: &DestSpec)
+        requires sound { IsSound W.whole self.old }
+        requires there { list_any (is_server_at key spec.now.addr spec.now.port) (state_of W.whole self.old).dests ≡ true }
+        requires thresholds { has_bad_thresholds spec.now ≡ false }
+        ensures state { state_of W.whole self.new ≡ record (state_of W.whole self.old) { dests = update_first (is_server_at key spec.now.addr spec.now.port) (respecified (state_of W.whole self.old).entries spec.now) (state_of W.whole self.old).dests } }
+        ensures sound { IsSound W.whole self.new }
+        ensures rest { self.new ≡ record self.old { dests = self.new.dests } }
+    {
+        respecify(&mut self.dests, &key, spec);
     }
 }
