@@ -25,3 +25,5 @@ pub mod Due
 pub mod Others
 pub mod Placed
 pub mod Respecified
+pub mod Steps
+pub mod Gone

@@ -6,3 +6,4 @@ pub mod Rooms
 pub mod Held
 pub mod Made
 pub mod Candidates
+pub mod Removals

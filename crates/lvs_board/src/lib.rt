@@ -19,6 +19,7 @@ mod room;
 mod services;
 mod templates;
 mod placing;
+mod removing;
 mod servers;
 mod sweeping;
 
