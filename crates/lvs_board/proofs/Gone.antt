@@ -1,7 +1,7 @@
 -- The state that the desk stands for once a server has left its service.
-use Rattle.std.proofs.Common.{◌≡◌, ◌+◌, ◌&&◌, ◌==◌, ℕ, Bool, true, false, cond, List, [], ◌∷◌, Option, Some, None, refl, sym, ap, subst, ◌∙◌, map, filter_map, arith, nat_eq, if◌then◌else◌}
+use Rattle.std.proofs.Common.{◌≡◌, ◌+◌, ◌&&◌, ◌==◌, ℕ, Bool, true, false, cond, List, [], ◌∷◌, Option, Some, None, refl, sym, ap, ◌∙◌, map, filter_map, arith, nat_eq, if◌then◌else◌}
 use Rattle.std.proofs.lemmas.Bool.Decides.{nat_tests}
-use Rattle.std.specs.Option.{IfSome, option_map}
+use Rattle.std.specs.Option.{option_map}
 use Rattle.std.specs.List.{AllByRecursion, IsDistinct, find, cons_option}
 use Rattle.lvs_types.specs.declared.addr.Addr.{Addr}
 use Rattle.lvs_types.specs.declared.addr.DestId.{DestId}
@@ -27,7 +27,7 @@ use Rattle.lvs_board.specs.declared.desk.Desk.{Desk}
 use Rattle.lvs_board.specs.Desks.{state_of, IsSound}
 use Rattle.lvs_board.specs.Removals.{candidate_before, stepped_back}
 use Rattle.lvs_board.proofs.Controls.{candidates_same}
-use Rattle.lvs_board.proofs.Placed.{with_dests, rows_at, with_servers, replaced_state, replaced_sound}
+use Rattle.lvs_board.proofs.Placed.{with_dests, rows_at, replaced_state, replaced_sound}
 
 -- THE CURSOR
 

@@ -10,7 +10,7 @@ use Rattle.lvs_model.specs.Same.{template_id_eq}
 use Rattle.lvs_model.specs.Counts.{controls, is_made_by}
 use Rattle.lvs_templates.specs.declared.row.TemplateRow.{TemplateRow}
 use Rattle.lvs_templates.specs.Rows.{template_row, has_id}
-use Rattle.lvs_board.specs.Endings.{less_one, CanLessen, IsControlledAt}
+use Rattle.lvs_board.specs.Endings.{less_one, CanLessen}
 use Rattle.lvs_board.proofs.Counts.{one_if, count_cons, count_parts}
 use Rattle.lvs_board.proofs.Ends.{map_twice}
 

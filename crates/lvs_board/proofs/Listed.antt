@@ -1,18 +1,16 @@
 -- The servers of a service, as the table lists them and as the definition does.
-use Rattle.std.proofs.Common.{◌≡◌, ◌+◌, ◌-◌, ◌≤◌, ℕ, Bool, true, false, cond, not, ◌&&◌, List, [], ◌∷◌, Option, Some, None, refl, sym, ap, subst, ◌∙◌, map, filter_map, length, slice_get, arith, nat_eq, nat_lt, if◌then◌else◌}
+use Rattle.std.proofs.Common.{◌≡◌, ◌-◌, ℕ, Bool, true, false, cond, not, ◌&&◌, List, [], ◌∷◌, Option, Some, None, refl, sym, ap, ◌∙◌, map, filter_map, slice_get, arith, nat_eq, nat_lt, if◌then◌else◌}
 use Rattle.std.specs.Option.{IfSome, option_map}
-use Rattle.std.specs.List.{AllByRecursion, IsDistinct, find, filter, cons_option}
+use Rattle.std.specs.List.{AllByRecursion, IsDistinct, find}
 use Rattle.std.proofs.lemmas.Option.{slice_get-map}
 use Rattle.lvs_types.specs.declared.addr.Addr.{Addr}
 use Rattle.lvs_types.specs.declared.service.ServiceKey.{ServiceKey}
 use Rattle.lvs_types.specs.declared.dest.Dest.{Dest}
-use Rattle.lvs_types.specs.declared.dest.DestRow.{DestRow}
 use Rattle.lvs_types.specs.declared.dest.Candidate.{Candidate}
 use Rattle.lvs_types.specs.declared.entry.Entry.{Entry}
-use Rattle.lvs_types.specs.declared.template.Template.{Template}
 use Rattle.lvs_model.specs.Same.{dest_eq, dest_id_eq, service_key_eq}
 use Rattle.lvs_model.specs.Timeouts.{is_active}
-use Rattle.lvs_model.specs.Counts.{row_of, counts_active, counts_inactive, active, inactive, candidate_of, candidates, is_eligible}
+use Rattle.lvs_model.specs.Counts.{counts_active, counts_inactive, active, inactive, candidate_of, candidates, is_eligible}
 use Rattle.lvs_model.specs.Lookups.{dest_at, has_entry_id, is_server_of, servers_of}
 use Rattle.lvs_model.specs.WellFormed.{entry_ids, dest_ids}
 use Rattle.lvs_well_formed.proofs.Keys.{nat_same}
@@ -21,8 +19,7 @@ use Rattle.lvs_well_formed.proofs.Distinct.{each_found}
 use Rattle.lvs_rules.specs.declared.view.Overload.{Overload}
 use Rattle.lvs_rules.specs.declared.view.View.{View}
 use Rattle.lvs_rules.specs.Views.{dest_in, dests_in, entries_in}
-use Rattle.lvs_board.specs.Candidates.{less_one, ended_in, looked_in, candidate_in, addr_in}
-use Rattle.lvs_board.proofs.Counts.{one_if}
+use Rattle.lvs_board.specs.Candidates.{ended_in, looked_in, candidate_in, addr_in}
 use Rattle.lvs_board.proofs.Rows.{one_both}
 use Rattle.lvs_board.proofs.Ends.{left_by, count_left}
 

@@ -1,5 +1,5 @@
 -- How many entries but one name a server.
-use Rattle.std.proofs.Common.{◌≡◌, ◌+◌, ◌<◌, ◌≤◌, ℕ, Bool, true, false, ◌&&◌, not, List, Option, Some, None, refl, sym, ap, subst, ◌∙◌, map, length, arith, is_some, nat_eq}
+use Rattle.std.proofs.Common.{◌≡◌, ◌+◌, ◌≤◌, Bool, true, false, ◌&&◌, not, List, Option, Some, None, refl, sym, ap, subst, ◌∙◌, map, length, arith, is_some, nat_eq}
 use Rattle.std.proofs.lemmas.List.Sums.{count_by-le-length}
 use Rattle.std.specs.Option.{IfSome, option_map}
 use Rattle.std.specs.List.{IsDistinct, find}
@@ -18,7 +18,7 @@ use Rattle.lvs_well_formed.proofs.Lists.{find_passes}
 use Rattle.lvs_dests.specs.Rows.{row_at, totals_of}
 use Rattle.lvs_dests.specs.declared.totals.Totals.{Totals}
 use Rattle.lvs_board.proofs.Counts.{one_if}
-use Rattle.lvs_board.proofs.Rows.{one_both, row_with, row_found}
+use Rattle.lvs_board.proofs.Rows.{row_with, row_found}
 use Rattle.lvs_board.proofs.Ends.{left_by, count_left}
 
 two_counts : (a b : Bool) → one_if (a && b) + one_if (a && not b) ≡ one_if a

@@ -1,5 +1,5 @@
 -- The state that the desk stands for once a server has another specification.
-use Rattle.std.proofs.Common.{◌≡◌, ◌&&◌, ℕ, Bool, true, false, cond, List, [], ◌∷◌, refl, sym, ap, subst, ◌∙◌, map, nat_eq, if◌then◌else◌}
+use Rattle.std.proofs.Common.{◌≡◌, ℕ, Bool, true, false, cond, List, [], ◌∷◌, refl, sym, ap, subst, ◌∙◌, map, nat_eq}
 use Rattle.std.proofs.lemmas.Bool.{and_parts, both_ways, eqb-true, false_from_ne_true}
 use Rattle.std.specs.List.{AllByRecursion, IsDistinct}
 use Rattle.lvs_types.specs.declared.addr.Addr.{Addr}
@@ -15,15 +15,15 @@ use Rattle.lvs_model.specs.Lists.{update_first}
 use Rattle.lvs_model.specs.Counts.{row_of}
 use Rattle.lvs_model.specs.Lookups.{is_server_of, is_server_at, stands_at}
 use Rattle.lvs_model.specs.Edits.{respecified}
-use Rattle.lvs_model.specs.WellFormed.{Place, place_eq, place_of, places, dest_ids}
+use Rattle.lvs_model.specs.WellFormed.{Place, place_eq, place_of, places}
 use Rattle.lvs_well_formed.proofs.Keys.{service_key_true, addr_true, place_same}
 use Rattle.lvs_well_formed.proofs.Lists.{all_weaker, all_unmap}
 use Rattle.lvs_well_formed.proofs.Distinct.{distinct_parts, keys_update}
-use Rattle.lvs_dests.specs.Rows.{DestsSeen, changed, edited, is_row_at, respecified_row, dests_of}
+use Rattle.lvs_dests.specs.Rows.{DestsSeen, changed, edited, is_row_at, respecified_row}
 use Rattle.lvs_board.specs.declared.desk.Desk.{Desk}
 use Rattle.lvs_board.specs.Desks.{state_of, IsSound}
 use Rattle.lvs_board.proofs.Rows.{rows_changed}
-use Rattle.lvs_board.proofs.Ends.{map_twice, dests_of_rows}
+use Rattle.lvs_board.proofs.Ends.{map_twice}
 use Rattle.lvs_board.proofs.Placed.{with_dests, rows_at, with_servers, replaced_state, replaced_apart}
 
 -- ONE PLACE
@@ -42,8 +42,8 @@ place_at key addr port d is =
 elsewhere : (key : ServiceKey) (addr : Addr) (port : ℕ) (d e : Dest) → is_server_at key addr port d ≡ true → place_eq (place_of d) (place_of e) ≡ false → is_server_at key addr port e ≡ false
 elsewhere key addr port d e here differs = false_from_ne_true (is_server_at key addr port e)
     (λ there.
-      let same : place_of e ≡ place_of d = place_at key addr port e there ∙ sym (place_at key addr port d here) in
-      both_ways (place_eq (place_of d) (place_of e)) differs (subst (λ (place : Place). place_eq (place_of d) place ≡ true) (sym same) (place_same (place_of d))))
+    let same : place_of e ≡ place_of d = place_at key addr port e there ∙ sym (place_at key addr port d here) in
+    both_ways (place_eq (place_of d) (place_of e)) differs (subst (λ (place : Place). place_eq (place_of d) place ≡ true) (sym same) (place_same (place_of d))))
 
 others_elsewhere : (key : ServiceKey) (addr : Addr) (port : ℕ) (d : Dest) (ds : List Dest) → is_server_at key addr port d ≡ true → AllByRecursion (λ (place : Place). place_eq (place_of d) place ≡ false) (places ds)
     → AllByRecursion (λ (e : Dest). is_server_at key addr port e ≡ false) ds

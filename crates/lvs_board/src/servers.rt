@@ -38,12 +38,7 @@ impl Desk {
     }
 
     /// The live server of the service at this address and port.
-    pub(crate) fn server_at<W: Whole>(
-        &self,
-        key: ServiceKey,
-        addr: Addr,
-        port: u16,
-    ) -> Option<Dest>
+    pub(crate) fn server_at<W: Whole>(&self, key: ServiceKey, addr: Addr, port: u16) -> Option<Dest>
         requires sound { IsSound W.whole self.now }
         ensures server { result ≡ find (is_server_at key addr port) (state_of W.whole self.now).dests }
         ensures serves { IfSome result (Serves self.now) }

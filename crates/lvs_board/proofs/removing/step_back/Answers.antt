@@ -1,4 +1,4 @@
-use Rattle.std.proofs.Common.{◌≡◌, ◌∙◌, sym}
+use Rattle.std.proofs.Common.{◌∙◌, sym}
 use Rattle.lvs_types.specs.declared.service.Service.{Service}
 use Rattle.lvs_model.specs.Lookups.{has_service_key}
 use Rattle.lvs_board.specs.Removals.{stepped_back}

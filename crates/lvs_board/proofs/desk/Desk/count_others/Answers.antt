@@ -1,4 +1,4 @@
-use Rattle.std.proofs.Common.{◌≡◌, ◌+◌, ◌-◌, ◌<◌, ◌≤◌, ◌^◌, ◌∙◌, ap, sym, subst, true, false, is_some, arith}
+use Rattle.std.proofs.Common.{◌∙◌, ap, sym, is_some, arith}
 use Rattle.lvs_model.specs.State.{State}
 use Rattle.lvs_board.specs.Desks.{state_of}
 use Rattle.lvs_board.proofs.Counts.{one_if}

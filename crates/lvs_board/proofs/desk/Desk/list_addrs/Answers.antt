@@ -1,4 +1,4 @@
-use Rattle.std.proofs.Common.{◌≡◌, ◌≤◌, ◌∙◌, ap, sym, subst, List, length, filter_map, vec_capacity, arith}
+use Rattle.std.proofs.Common.{◌≡◌, ◌∙◌, ap, List, length, filter_map, arith}
 use Rattle.lvs_types.specs.declared.dest.Candidate.{Candidate}
 use Rattle.lvs_model.specs.State.{State}
 use Rattle.lvs_model.specs.Counts.{candidates}

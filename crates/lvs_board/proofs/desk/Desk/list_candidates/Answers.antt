@@ -1,4 +1,4 @@
-use Rattle.std.proofs.Common.{◌≡◌, ◌≤◌, ◌∙◌, ap, List, Option, Some, None, length, map, vec_capacity, arith}
+use Rattle.std.proofs.Common.{◌≡◌, ◌∙◌, ap, List, Option, Some, None, length, map, arith}
 use Rattle.std.specs.Option.{IfSome}
 use Rattle.std.specs.List.{find}
 use Rattle.lvs_types.specs.declared.dest.Candidate.{Candidate}
