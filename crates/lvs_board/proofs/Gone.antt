@@ -72,7 +72,7 @@ gone_by es ts d false false same = refl
 gone_by es ts d true false same = absurd cc
 gone_by es ts d false true same = absurd cc
 
-left_same : (es : List Entry) (ts : List Template) (d : Dest) → left_row (row_of es ts d) ≡ option_map (row_of es ts) (trashed d (refs d.id es ts))
+pub left_same : (es : List Entry) (ts : List Template) (d : Dest) → left_row (row_of es ts d) ≡ option_map (row_of es ts) (trashed d (refs d.id es ts))
 left_same es ts d = gone_by es ts d ((active d.id es == 0) && (inactive d.id es == 0) && (template_count d.id ts == 0)) (refs d.id es ts == 0) (no_sum (active d.id es) (inactive d.id es) (template_count d.id ts))
 
 leave_by : (es : List Entry) (ts : List Template) (d e : Dest) (b : Bool) → (b ≡ true → e ≡ d)
@@ -85,7 +85,7 @@ map_cons g None r rows ds is rest = ap (λ (x : Option DestRow). cons_option x r
 map_cons g (Some d) r rows ds is rest = ap (λ (x : Option DestRow). cons_option x rows) is ∙ ap (λ (others : List DestRow). g d ∷ others) rest
 
 -- what is left of each row is the row of what is left of its server
-kept_rows : (g : Dest → DestRow) (h : DestRow → Option DestRow) (k : Dest → Option Dest) (ds : List Dest) → AllByRecursion (λ (d : Dest). h (g d) ≡ option_map g (k d)) ds → filter_map h (map g ds) ≡ map g (filter_map k ds)
+pub kept_rows : (g : Dest → DestRow) (h : DestRow → Option DestRow) (k : Dest → Option Dest) (ds : List Dest) → AllByRecursion (λ (d : Dest). h (g d) ≡ option_map g (k d)) ds → filter_map h (map g ds) ≡ map g (filter_map k ds)
 kept_rows g h k [] each = refl
 kept_rows g h k (d ∷ ds) each = map_cons g (k d) (h (g d)) (filter_map h (map g ds)) (filter_map k ds) each.0 (kept_rows g h k ds each.1)
 

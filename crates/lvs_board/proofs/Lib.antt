@@ -27,3 +27,4 @@ pub mod Placed
 pub mod Respecified
 pub mod Steps
 pub mod Gone
+pub mod Left

@@ -14,7 +14,7 @@ use lvs_rules::Whole;
 use lvs_types::{Addr, Candidate, Dest, DestId, Entry, ServiceKey};
 
 /// The one at a place.
-fn nth(candidates: &[Candidate], place: usize) -> Option<Candidate>
+pub(crate) fn nth(candidates: &[Candidate], place: usize) -> Option<Candidate>
     ensures { result ≡ slice_get candidates.now place }
 {
     candidates.get(place).copied()
