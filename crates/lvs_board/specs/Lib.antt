@@ -7,3 +7,4 @@ pub mod Held
 pub mod Made
 pub mod Candidates
 pub mod Removals
+pub mod Homes

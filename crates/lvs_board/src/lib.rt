@@ -14,13 +14,13 @@ mod lookups;
 mod moving;
 mod numbers;
 mod pending;
-mod reaping;
-mod room;
-mod services;
-mod templates;
 mod placing;
+mod reaping;
 mod removing;
+mod room;
 mod servers;
+mod services;
 mod sweeping;
+mod templates;
 
 pub use board::Board;
