@@ -1,0 +1,5 @@
+pub mod Joined
+pub mod Numbered
+pub mod Taken
+pub mod Begun
+pub mod Answered
