@@ -3,3 +3,4 @@ pub mod Numbered
 pub mod Taken
 pub mod Begun
 pub mod Answered
+pub mod LawSteps

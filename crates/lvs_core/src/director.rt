@@ -5,6 +5,7 @@ ghost use Rattle.lvs_model.specs.State.{State, initial};
 ghost use Rattle.lvs_model.specs.Step.{step, IsInRange};
 ghost use Rattle.lvs_model.specs.WellFormed.{IsWellFormed};
 ghost use Rattle.lvs_core.specs.Agree.{Agree};
+ghost use Rattle.lvs_core.specs.Laws.{Keeps, Releases, TakesOver};
 
 use crate::buckets::make_buckets;
 use crate::snapshot::show;
@@ -72,6 +73,10 @@ impl Core {
         ensures ok { IfOk result (λ r. (r, self.new.state) ≡ step self.old.state item.now) }
         ensures steps { OnOk result (self.new.steps ≡ self.old.steps + 1) }
         ensures err { OnErr result (self.new ≡ self.old) }
+        ensures well_formed { OnOk result (IsWellFormed self.new.state) }
+        ensures keep { IfOk result (λ r. Keeps self.old.state item.now (r, self.new.state)) }
+        ensures release { IfOk result (λ r. Releases self.old.state item.now (r, self.new.state)) }
+        ensures takeover { IfOk result (λ r. TakesOver self.old.state item.now (r, self.new.state)) }
     {
         let copy = item.copy(alloc)?;
         match self.step_owned(alloc, copy) {
@@ -94,6 +99,10 @@ impl Core {
         ensures steps { OnOk result (self.new.steps ≡ self.old.steps + 1) }
         ensures back { IfErr result (λ e. e.0 ≡ item) }
         ensures err { OnErr result (self.new ≡ self.old) }
+        ensures well_formed { OnOk result (IsWellFormed self.new.state) }
+        ensures keep { IfOk result (λ r. Keeps self.old.state item (r.1, self.new.state)) }
+        ensures release { IfOk result (λ r. Releases self.old.state item (r.1, self.new.state)) }
+        ensures takeover { IfOk result (λ r. TakesOver self.old.state item (r.1, self.new.state)) }
     {
         answer::<Brand>(alloc, &mut self.board, &mut self.buckets, item)
     }
