@@ -6,5 +6,7 @@ mod director;
 mod home;
 mod snapshot;
 mod stepping;
+#[cfg(test)]
+mod tests;
 
 pub use director::Core;
