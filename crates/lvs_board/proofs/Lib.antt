@@ -32,5 +32,3 @@ pub mod NewKeys
 pub mod Filters
 pub mod Carried
 pub mod ItemSteps
-pub mod AtItems
-pub mod Decisions

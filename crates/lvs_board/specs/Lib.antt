@@ -8,4 +8,3 @@ pub mod Made
 pub mod Candidates
 pub mod Removals
 pub mod Homes
-pub mod AtItems

@@ -1,6 +1,0 @@
-pub mod Joined
-pub mod Numbered
-pub mod Taken
-pub mod Begun
-pub mod Answered
-pub mod LawSteps

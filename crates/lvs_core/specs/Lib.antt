@@ -1,4 +1,0 @@
-pub mod Agree
-pub mod Seen
-pub mod Taking
-pub mod Laws
