@@ -14,7 +14,7 @@ if [ ! -x "$program" ]; then
     echo "edges: skipped, no proved program at $program"
     exit 0
 fi
-for tool in awk cmp head mktemp; do
+for tool in awk cmp head mktemp sed; do
     if ! command -v "$tool" >/dev/null; then
         echo "edges: skipped, there is no $tool"
         exit 0
@@ -109,6 +109,35 @@ expect "a folder for standard input" 3 "ipvsd: read fault"
 run serial <&-
 expect "no standard input" 3 "ipvsd: read fault"
 
+run capture 192.168.0.0 16 <"$room/script"
+expect "a missing number" 2 "ipvsd: words refused, word 3"
+
+run capture 192.168.0.0 33 1 <"$room/script"
+expect "a number that is too great" 2 "ipvsd: words refused, word 2"
+
+{ cat "$root/examples/capture.ipvs" && echo capture && head -c 540 "$root/examples/capture.pcap"; } | run capture 192.168.0.0 16 1
+expect "a capture that is cut" 8 "ipvsd: capture refused, record 7: RecordShort"
+
+write_script 2 >"$room/script"
+write_report 2 >"$room/report"
+echo legal >"$room/wanted"
+{ cat "$room/script" && echo report && cat "$room/report"; } | run check
+expect "a legal report" 0 ""
+
+echo "unreadable line 4" >"$room/wanted"
+{ cat "$room/script" && echo report && head -n 3 "$room/report"; } | run check
+expect "a report that is cut" 7 "ipvsd: illegal report"
+
+{
+    echo "illegal line 2"
+    echo "expected 2 1.0 ok"
+    echo "found 2 1.0 refused exists"
+} >"$room/wanted"
+{ cat "$room/script" && echo report && sed 's/^2 1.0 ok$/2 1.0 refused exists/' "$room/report"; } | run check
+expect "a report with another reply" 7 "ipvsd: illegal report"
+
+write_script 2000 >"$room/script"
+: >"$room/wanted"
 if [ -w /dev/full ]; then
     "$program" serial <"$room/script" >/dev/full 2>"$room/error"
     echo $? >"$room/status"
