@@ -1,2 +1,3 @@
 pub mod ExitCodes
 pub mod Words
+pub mod FaultLines
