@@ -15,6 +15,7 @@ use Rattle.lvs_templates.specs.Rows.{template_row}
 use Rattle.lvs_well_formed.proofs.Lists.{all_weaker, all_unmap}
 use Rattle.lvs_well_formed.proofs.Distinct.{distinct_cons}
 use Rattle.lvs_board.specs.declared.desk.Desk.{Desk}
+use Rattle.lvs_board.specs.declared.desk.Sweep.{Sweep}
 use Rattle.lvs_board.specs.Seen.{TablesSeen, BoardSeen}
 use Rattle.lvs_board.specs.Stands.{state_in, AreTotalled, StandsFor}
 use Rattle.lvs_board.specs.Desks.{seen_of, state_of, AreFew, IsSound}
@@ -65,11 +66,11 @@ begins_few s steps well counted young = record {
 abbrev board_of : List Noted → ℕ → Desk → BoardSeen
 board_of book steps d = record { tables = seen_of d; book = book; steps = steps }
 
-abbrev begun : Option ℕ → ℕ → Desk → Desk
-begun home bucket d = record d { home = home; bucket = bucket; change = Keep }
+abbrev begun : Option ℕ → Option Sweep → Desk → Desk
+begun home sweep d = record d { home = home; sweep = sweep; change = Keep }
 
-pub begins_sound : (whole : State) (d : Desk) (home : Option ℕ) (bucket : ℕ) (book : List Noted) (steps : ℕ) → StandsFor (board_of book steps d) whole → IsWellFormed whole → IsCounted steps whole → steps < 2 ^ 62 → IsSound whole (begun home bucket d)
-begins_sound whole d home bucket book steps stands well counted young = record {
+pub begins_sound : (whole : State) (d : Desk) (home : Option ℕ) (sweep : Option Sweep) (book : List Noted) (steps : ℕ) → StandsFor (board_of book steps d) whole → IsWellFormed whole → IsCounted steps whole → steps < 2 ^ 62 → IsSound whole (begun home sweep d)
+begins_sound whole d home sweep book steps stands well counted young = record {
   totals = subst (AreTotalled (seen_of d)) (sym stands.tables) stands.totals;
   few = subst AreFew (sym stands.tables) (begins_few whole steps well counted young);
   of_item = tt;

@@ -32,3 +32,5 @@ pub mod NewKeys
 pub mod Filters
 pub mod Carried
 pub mod ItemSteps
+pub mod AtItems
+pub mod Decisions

@@ -8,3 +8,4 @@ pub mod Made
 pub mod Candidates
 pub mod Removals
 pub mod Homes
+pub mod AtItems

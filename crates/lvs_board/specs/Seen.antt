@@ -5,6 +5,8 @@ use Rattle.lvs_types.specs.declared.service.Service.{Service}
 use Rattle.lvs_types.specs.declared.settings.Settings.{Settings}
 use Rattle.lvs_types.specs.declared.settings.Daemons.{Daemons}
 use Rattle.lvs_types.specs.declared.sync.SyncRecord.{SyncRecord}
+use Rattle.lvs_types.specs.declared.item.Item.{Item}
+use Rattle.lvs_types.specs.declared.reply.Reply.{Reply}
 use Rattle.lvs_types.specs.declared.book.Noted.{Noted}
 use Rattle.lvs_types.specs.Settings.{default_settings}
 use Rattle.lvs_dests.specs.Rows.{DestsSeen}
@@ -30,6 +32,10 @@ pub record BoardSeen : Type 0 where
   pub book : List Noted
   -- how many items it has taken
   pub steps : ℕ
+
+-- an act of the book
+abbrev pub noted : ℕ → ℕ → Item → Reply → Noted
+noted actor number item reply = record { actor = actor; number = number; item = item; reply = reply }
 
 -- tables with nothing in them
 abbrev pub begun : Addr → TablesSeen

@@ -1,8 +1,10 @@
 -- The state that a board stands for, together with the entries beside it.
-use Rattle.std.specs.Prelude.{◌≡◌, ℕ, List, map}
+use Rattle.std.specs.Prelude.{◌≡◌, ℕ, List, [], map}
 use Rattle.lvs_types.specs.declared.entry.Entry.{Entry}
+use Rattle.lvs_types.specs.declared.snapshot.Snapshot.{Snapshot}
 use Rattle.lvs_model.specs.State.{State}
 use Rattle.lvs_model.specs.Counts.{row_of}
+use Rattle.lvs_model.specs.Snapshots.{snapshot_of}
 use Rattle.lvs_dests.specs.Rows.{dests_of}
 use Rattle.lvs_templates.specs.Rows.{template_row, templates_of}
 use Rattle.lvs_board.specs.Seen.{TablesSeen, BoardSeen}
@@ -34,3 +36,11 @@ pub record AreTotalled (t : TablesSeen) (s : State) : Type 0 where
 pub record StandsFor (board : BoardSeen) (s : State) : Type 0 where
   pub tables : state_in board.tables s.entries s.buckets ≡ s
   pub totals : AreTotalled board.tables s
+
+-- a board and entries beside it, in so many buckets, as one state
+abbrev pub joined : BoardSeen → List Entry → ℕ → State
+joined board entries buckets = state_in board.tables entries buckets
+
+-- the snapshot without its entries
+abbrev pub shown_tables : State → Snapshot
+shown_tables s = record (snapshot_of s) { entries = [] }

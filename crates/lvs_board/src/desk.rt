@@ -9,6 +9,13 @@ use lvs_templates::Templates;
 use lvs_types::{Addr, Change, Daemons, NoMemory, Settings, SyncRecord};
 use std::alloc::Global;
 
+/// The sweep that an item is: of which bucket, and at which moment in seconds.
+#[derive(Clone, Copy, Debug, PartialEq, Eq)]
+pub(crate) struct Sweep {
+    pub bucket: u32,
+    pub moment: u64,
+}
+
 /// All that the rules read and change, but the entries, of which it has the change so far.
 #[derive(Drop)]
 pub(crate) struct Desk {
@@ -24,7 +31,9 @@ pub(crate) struct Desk {
     pub next_template: u64,
     /// The id of the entry that was found for the item.
     pub home: Option<u64>,
-    /// The bucket that a sweep is of.
+    /// The sweep that the item is, if it is one.
+    pub sweep: Option<Sweep>,
+    /// The bucket whose due entries have ended.
     pub bucket: u32,
     pub change: Change,
 }
@@ -56,6 +65,7 @@ impl Desk {
             next_entry: 1,
             next_template: 1,
             home: None,
+            sweep: None,
             bucket: 0,
             change: Change::Keep,
         })

@@ -3,7 +3,7 @@ ghost use Rattle.std.specs.Prelude.{◌≡◌, ◌+◌, ◌<◌, ◌^◌, Some, 
 ghost use Rattle.lvs_model.specs.Binding.{put_entry, bind_entry};
 ghost use Rattle.lvs_model.specs.Incoming.{end_entry};
 ghost use Rattle.lvs_rules.specs.Changes.{HaveSameNames, entered, appended};
-ghost use Rattle.lvs_board.specs.Desks.{state_of, IsSound, Holds, IsFree};
+ghost use Rattle.lvs_board.specs.Desks.{state_of, with_entry, IsSound, Holds, IsFree};
 
 use crate::changing::{ending, entering, updating};
 use crate::coming::{come_to_server, come_to_template};
@@ -68,6 +68,7 @@ impl Desk {
         requires id { e.now.id ≡ self.old.next_entry }
         ensures state { state_of W.whole self.new ≡ entered e.now d.now.id (state_of W.whole self.old) }
         ensures sound { IsSound W.whole self.new }
+        ensures change { self.new.change ≡ with_entry e.now self.old.change }
         ensures rest { self.new ≡ record self.old { dests = self.new.dests; templates = self.new.templates; next_entry = self.new.next_entry; change = self.new.change } }
     {
         come_to_server(&mut self.dests, e);

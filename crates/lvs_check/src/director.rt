@@ -1,2 +1,2 @@
 //! The director that is asked for each line: one place to change.
-pub(crate) use lvs_flat::Flat as Director;
+pub(crate) use lvs_core::Core as Director;

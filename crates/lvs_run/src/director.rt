@@ -6,7 +6,7 @@ ghost use Rattle.lvs_model.specs.Plans.{listings_of};
 ghost use Rattle.lvs_model.specs.Listings.{shown_of};
 
 use crate::listings::{has_listing, show_lines};
-use lvs_flat::Flat;
+use lvs_core::Core;
 use lvs_types::{Addr, Item, Listed, NoMemory, Reply, Round, ShownText};
 use std::alloc::Global;
 use std::marker::Model;
@@ -15,7 +15,7 @@ use std::marker::Model;
 /// taken.
 #[derive(Drop)]
 pub(crate) struct Director {
-    flat: Flat,
+    core: Core,
 }
 
 impl Model for Director {
@@ -23,7 +23,7 @@ impl Model for Director {
 
     ghost Value = { DirectorSeen };
 
-    ghost view = { λ d. record { state = d.flat.state; steps = d.flat.steps } };
+    ghost view = { λ d. record { state = d.core.state; steps = d.core.steps } };
 }
 
 impl Director {
@@ -33,7 +33,7 @@ impl Director {
         ensures steps { IfOk result (λ d. d.steps ≡ 0) }
     {
         Ok(Director {
-            flat: Flat::new(alloc, local, 1)?,
+            core: Core::new(alloc, local, 1)?,
         })
     }
 
@@ -45,7 +45,7 @@ impl Director {
         ensures ok { IfOk result (λ reply. (reply, self.new.state) ≡ step self.old.state item.now) }
         ensures steps { OnOk result (self.new.steps ≡ self.old.steps + 1) }
     {
-        self.flat.step(alloc, item)
+        self.core.step(alloc, item)
     }
 
     /// The listings of a round, of the director as it is now.
@@ -55,7 +55,7 @@ impl Director {
         if !has_listing(round) {
             return Ok(Listed::new(alloc));
         }
-        let tables = self.flat.snapshot(alloc)?;
+        let tables = self.core.snapshot(alloc)?;
         let shown = show_lines(alloc, &tables, round.lines.as_slice())?;
         Ok(Listed::from_vec(shown))
     }

@@ -1,0 +1,4 @@
+pub mod Agree
+pub mod Seen
+pub mod Taking
+pub mod Laws
