@@ -14,3 +14,5 @@ pub mod Serves
 pub mod Trashed
 pub mod Distinct
 pub mod Ahead
+pub mod All
+pub mod Cleared

@@ -7,10 +7,11 @@ use Rattle.std.proofs.lemmas.List.Sorted.{list_any-IsPermutation}
 use Rattle.std.proofs.lemmas.Bool.Decides.{nat_tests}
 use Rattle.std.proofs.lemmas.Map.Keys.{IsDistinct-IsPermutation, IsStrictlyIncreasing-from_distinct}
 use Rattle.lvs_types.specs.declared.addr.DestId.{DestId}
+use Rattle.lvs_types.specs.declared.dest.DestRow.{DestRow}
 use Rattle.lvs_model.specs.Same.{dest_id_eq}
 use Rattle.lvs_dests.specs.declared.slots.Slot.{Slot}
 use Rattle.lvs_dests.specs.Rows.{has_row_id, is_trashed, IsTrashOf}
-use Rattle.lvs_dests.specs.Pool.{IsIndex, rows_in, id_in, trashed_in, trashed_of}
+use Rattle.lvs_dests.specs.Pool.{IsIndex, rows_in, id_in, trashed_in, trashed_row_in, trashed_of}
 use Rattle.lvs_dests.proofs.Same.{decide_id, apart_ids}
 use Rattle.lvs_dests.proofs.Index.{index_one}
 use Rattle.lvs_dests.proofs.Occupied.{held_by, at_key}
@@ -18,22 +19,29 @@ use Rattle.lvs_dests.proofs.Found.{SlotsApart, held_apart, rows_any, all_map}
 
 -- ---- one slot more
 
-cons_append : (o p : Option DestId) (xs : List DestId) → cons_option o (xs ++ cons_option p []) ≡ cons_option o xs ++ cons_option p []
+cons_append : {X : Type 0} (o p : Option X) (xs : List X) → cons_option o (xs ++ cons_option p []) ≡ cons_option o xs ++ cons_option p []
 cons_append None p xs = refl
 cons_append (Some x) p xs = refl
 
-pub trashed_more : (slots : List (Option Slot)) (key : ℕ) → trashed_of (take (suc key) slots) ≡ trashed_of (take key slots) ++ cons_option (trashed_in (at_key slots key)) []
-trashed_more [] zero = refl
-trashed_more [] (suc key) = refl
-trashed_more (slot ∷ slots) zero = refl
-trashed_more (slot ∷ slots) (suc key) =
-    ap (cons_option (trashed_in slot)) (trashed_more slots key) ∙ cons_append (trashed_in slot) (trashed_in (at_key slots key)) (trashed_of (take key slots))
+-- what one slot more adds to what is taken of the slots
+pub taken_more : {X : Type 0} (h : Option Slot → Option X) → h None ≡ None → (slots : List (Option Slot)) (key : ℕ) → filter_map h (take (suc key) slots) ≡ filter_map h (take key slots) ++ cons_option (h (at_key slots key)) []
+taken_more h none [] zero = sym (ap (λ o. cons_option o []) none)
+taken_more h none [] (suc key) = sym (ap (λ o. cons_option o []) none)
+taken_more h none (slot ∷ slots) zero = refl
+taken_more h none (slot ∷ slots) (suc key) =
+    ap (cons_option (h slot)) (taken_more h none slots key) ∙ cons_append (h slot) (h (at_key slots key)) (filter_map h (take key slots))
 
 pub trashed_next : (slots : List (Option Slot)) (key : ℕ) (ids new : List DestId) (o : Option DestId) → ids ≡ trashed_of (take key slots) → o ≡ trashed_in (at_key slots key) → new ≡ ids ++ cons_option o [] → new ≡ trashed_of (take (key + 1) slots)
 trashed_next slots key ids new o so_far is after =
     let one : key + 1 ≡ suc key = omega arith in
     after ∙ ap (λ (xs : List DestId). xs ++ cons_option o []) so_far ∙ ap (λ (p : Option DestId). trashed_of (take key slots) ++ cons_option p []) is
-    ∙ sym (trashed_more slots key) ∙ ap (λ (n : ℕ). trashed_of (take n slots)) (sym one)
+    ∙ sym (taken_more trashed_in refl slots key) ∙ ap (λ (n : ℕ). trashed_of (take n slots)) (sym one)
+
+pub rows_next : (slots : List (Option Slot)) (key : ℕ) (rows new : List DestRow) (o : Option DestRow) → rows ≡ filter_map trashed_row_in (take key slots) → o ≡ trashed_row_in (at_key slots key) → new ≡ rows ++ cons_option o [] → new ≡ filter_map trashed_row_in (take (key + 1) slots)
+rows_next slots key rows new o so_far is after =
+    let one : key + 1 ≡ suc key = omega arith in
+    after ∙ ap (λ (xs : List DestRow). xs ++ cons_option o []) so_far ∙ ap (λ (p : Option DestRow). filter_map trashed_row_in (take key slots) ++ cons_option p []) is
+    ∙ sym (taken_more trashed_row_in refl slots key) ∙ ap (λ (n : ℕ). filter_map trashed_row_in (take n slots)) (sym one)
 
 -- ---- those of the rows
 

@@ -2,6 +2,7 @@
 use Rattle.std.specs.Prelude.{◌≡◌, ◌≢◌, ℕ, ◌<◌, Bool, true, false, List, [], ◌∷◌, Option, Some, None, map, filter_map, if◌then◌else◌}
 use Rattle.std.specs.Map.{lookup}
 use Rattle.std.specs.List.{AllByRecursion, list_any}
+use Rattle.std.specs.Option.{option_map}
 use Rattle.slab.specs.Slab.{get}
 use Rattle.lvs_types.specs.declared.addr.DestId.{DestId}
 use Rattle.lvs_types.specs.contracts.addr.DestIdPartialEq.TheImpl as id_impl
@@ -11,7 +12,7 @@ use Rattle.lvs_dests.specs.declared.place.Place.{Place}
 use Rattle.lvs_dests.specs.contracts.place.PlacePartialEq.TheImpl as place_impl
 use Rattle.lvs_dests.specs.declared.slots.Slot.{Slot}
 use Rattle.lvs_dests.specs.declared.pool.Pool.{Pool}
-use Rattle.lvs_dests.specs.Rows.{has_row_id, is_row_released}
+use Rattle.lvs_dests.specs.Rows.{has_row_id, is_row_released, left_live}
 use Rattle.lvs_dests.specs.Places.{place_of, has_place}
 
 -- whether two ids, or two places, are the same, as the maps ask
@@ -44,6 +45,10 @@ abbrev pub is_over_at : Option Slot → Bool
 is_over_at None = false
 is_over_at (Some slot) = is_row_released slot.row
 
+-- what is left of a slot once all live servers have left their services
+abbrev pub left_slot : Slot → Option Slot
+left_slot slot = option_map (λ (row : DestRow). record { row = row; sequence = slot.sequence }) (left_live slot.row)
+
 abbrev pub id_in : Slot → DestId
 id_in slot = slot.row.dest.id
 
@@ -51,6 +56,11 @@ id_in slot = slot.row.dest.id
 abbrev pub trashed_in : Option Slot → Option DestId
 trashed_in None = None
 trashed_in (Some slot) = if slot.row.dest.live then None else Some (id_in slot)
+
+-- the server, where it stands in the trash
+abbrev pub trashed_row_in : Option Slot → Option DestRow
+trashed_row_in None = None
+trashed_row_in (Some slot) = if slot.row.dest.live then None else Some slot.row
 
 -- the ids of the servers in the trash, in the order of the slots
 abbrev pub trashed_of : List (Option Slot) → List DestId

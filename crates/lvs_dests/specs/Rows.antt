@@ -212,7 +212,17 @@ abbrev pub removed_by : DestsSeen → Option DestRow → DestsSeen
 removed_by seen None = seen
 removed_by seen (Some row) = record seen { rows = replaced (has_row_id row.dest.id) (left_row row) seen.rows }
 
+-- what is left of a server once all live ones have left their services
+abbrev pub left_live : DestRow → Option DestRow
+left_live row = if row.dest.live then left_row row else Some row
+
+abbrev pub all_left : List DestRow → List DestRow
+all_left rows = filter_map left_live rows
+
 -- ---- the trash
+
+abbrev pub is_row_trashed : DestRow → Bool
+is_row_trashed row = not row.dest.live
 
 -- in the trash, and nothing names it
 abbrev pub is_row_released : DestRow → Bool

@@ -1,5 +1,5 @@
--- The first server of a list that serves at an address and a port, each looked up by its id.
-use Rattle.std.specs.Prelude.{ℕ, List, [], ◌∷◌, Option, Some, None, if◌then◌else◌}
+-- The servers of some candidates, each looked up by its id, and the first that serves at an address and a port.
+use Rattle.std.specs.Prelude.{ℕ, List, [], ◌∷◌, Option, Some, None, filter_map, if◌then◌else◌}
 use Rattle.std.specs.Option.{option_or}
 use Rattle.lvs_types.specs.declared.addr.Addr.{Addr}
 use Rattle.lvs_types.specs.declared.addr.DestId.{DestId}
@@ -20,3 +20,6 @@ serving_id daddr dport vport rows id = serving_row daddr dport vport (row_at id 
 abbrev pub first_serving : Addr → ℕ → ℕ → List DestRow → List Candidate → Option Dest
 first_serving daddr dport vport rows [] = None
 first_serving daddr dport vport rows (c ∷ candidates) = option_or (serving_id daddr dport vport rows c.id) (first_serving daddr dport vport rows candidates)
+
+abbrev pub rows_at : List DestRow → List Candidate → List DestRow
+rows_at rows candidates = filter_map (λ (c : Candidate). row_at c.id rows) candidates

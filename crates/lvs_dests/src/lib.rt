@@ -5,6 +5,8 @@ mod candidates_after;
 mod counts;
 mod dests;
 mod edits;
+mod clearing;
+mod listing;
 mod lists;
 mod moves;
 mod place;
