@@ -2,10 +2,10 @@
 #![tactic(auto)]
 
 mod candidates_after;
+mod clearing;
 mod counts;
 mod dests;
 mod edits;
-mod clearing;
 mod listing;
 mod lists;
 mod moves;
