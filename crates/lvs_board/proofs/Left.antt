@@ -19,7 +19,7 @@ use Rattle.lvs_well_formed.proofs.Distinct.{each_found}
 use Rattle.lvs_model.specs.State.{State}
 use Rattle.lvs_model.specs.Counts.{row_of, refs}
 use Rattle.lvs_model.specs.Edits.{leaving, remove_dests, trashed}
-use Rattle.lvs_dests.specs.Rows.{DestsSeen, dests_of, candidates_of, candidate_of_row, has_row_id, is_row_at, is_row_of, left_row, out_of_service, is_unnamed, replaced, removed_by, row_at}
+use Rattle.lvs_dests.specs.Rows.{DestsSeen, dests_of, candidates_of, candidate_of_row, has_row_id, is_row_at, is_row_of, left_row, out_of_service, is_unnamed, left_live, all_left, replaced, removed_by, row_at}
 use Rattle.lvs_board.specs.Removals.{left_of, left_in}
 use Rattle.lvs_board.specs.declared.desk.Desk.{Desk}
 use Rattle.lvs_board.specs.Desks.{state_of, IsSound}
@@ -208,6 +208,28 @@ pub gone_sound : (whole : State) (d : Desk) (key : ServiceKey) (seen : DestsSeen
 gone_sound whole d key seen sound is apart = replaced_sound whole d seen (without_service (state_of whole d) key) d.dests.next sound (gone_seen whole d key seen sound is) apart
 
 -- once none is left, the rest is what was left at first
-pub all_left : (key : ServiceKey) (first later : DestsSeen) → length (candidates_of key later.rows) ≡ 0 → left_in key later.rows ≡ left_in key first.rows → later.next ≡ first.next → later ≡ with_rows first (left_in key first.rows)
-all_left key first later none same next =
+pub each_left : (key : ServiceKey) (first later : DestsSeen) → length (candidates_of key later.rows) ≡ 0 → left_in key later.rows ≡ left_in key first.rows → later.next ≡ first.next → later ≡ with_rows first (left_in key first.rows)
+each_left key first later none same next =
     ap (λ (rows : List DestRow). rows_at rows later.next) (sym (all_stay key later.rows none) ∙ same) ∙ ap (rows_at (left_in key first.rows)) next
+
+-- ALL SERVERS OF ALL SERVICES
+
+all_rows : (es : List Entry) (ts : List Template) (ds : List Dest) → AllByRecursion (λ (d : Dest). left_live (row_of es ts d) ≡ option_map (row_of es ts) (leaving (λ (x : Dest). x.live) es ts d)) ds
+all_rows es ts [] = tt
+all_rows es ts (d ∷ ds) = (leave_point es ts d d.live, all_rows es ts ds)
+
+abbrev without_live : State → List Dest
+without_live s = remove_dests (λ (d : Dest). d.live) s.entries s.templates s.dests
+
+cleared_seen : (whole : State) (d : Desk) (seen : DestsSeen) → IsSound whole d → seen ≡ with_rows d.dests (all_left d.dests.rows)
+    → seen ≡ rows_at (map (row_of (state_of whole d).entries (state_of whole d).templates) (without_live (state_of whole d))) d.dests.next
+cleared_seen whole d seen sound is =
+    let s = state_of whole d in
+    is ∙ ap (λ (rows : List DestRow). rows_at rows d.dests.next)
+    (ap all_left sound.totals.servers ∙ kept_rows (row_of s.entries s.templates) left_live (leaving (λ (x : Dest). x.live) s.entries s.templates) s.dests (all_rows s.entries s.templates s.dests))
+
+pub cleared_state : (whole : State) (d : Desk) (seen : DestsSeen) → IsSound whole d → seen ≡ with_rows d.dests (all_left d.dests.rows) → state_of whole (with_dests seen d) ≡ with_servers (without_live (state_of whole d)) d.dests.next (state_of whole d)
+cleared_state whole d seen sound is = replaced_state whole d seen (without_live (state_of whole d)) d.dests.next (cleared_seen whole d seen sound is)
+
+pub cleared_sound : (whole : State) (d : Desk) (seen : DestsSeen) → IsSound whole d → seen ≡ with_rows d.dests (all_left d.dests.rows) → IsDistinct nat_eq (dest_ids (dests_of seen.rows)) → IsSound whole (with_dests seen d)
+cleared_sound whole d seen sound is apart = replaced_sound whole d seen (without_live (state_of whole d)) d.dests.next sound (cleared_seen whole d seen sound is) apart

@@ -28,6 +28,7 @@ pub mod Respecified
 pub mod Steps
 pub mod Gone
 pub mod Left
+pub mod Shown
 pub mod NewKeys
 pub mod Filters
 pub mod Carried

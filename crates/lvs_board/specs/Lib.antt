@@ -9,3 +9,4 @@ pub mod Candidates
 pub mod Removals
 pub mod Homes
 pub mod AtItems
+pub mod Shown

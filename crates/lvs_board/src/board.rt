@@ -83,7 +83,7 @@ impl Board {
     pub fn tables(&self, alloc: Global) -> Result<Snapshot, NoMemory>
         ensures { IfOk result (λ t. (s : State) → StandsFor self.now s → t ≡ shown_tables s) }
     {
-        Err(NoMemory)
+        self.desk.show(alloc)
     }
 
     /// Takes an item, given what its bucket has for it: one act is noted, with the definition's

@@ -22,7 +22,7 @@ mod removing;
 mod room;
 mod servers;
 mod services;
-mod stubs;
+mod showing;
 mod sweeping;
 mod tables;
 mod templates;

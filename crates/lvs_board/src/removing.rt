@@ -1,6 +1,7 @@
 //! Servers leave their services on the desk.
-ghost use Rattle.std.specs.Prelude.{◌≡◌, ◌≤◌, ◌-◌, None, Some, length, nat_eq};
+ghost use Rattle.std.specs.Prelude.{◌≡◌, ◌≤◌, ◌-◌, None, Some, OnOk, OnErr, length, nat_eq};
 ghost use Rattle.std.specs.List.{find, IsDistinct};
+ghost use Rattle.lvs_types.specs.declared.dest.Dest.{Dest};
 ghost use Rattle.lvs_model.specs.Edits.{remove_dest, remove_dests};
 ghost use Rattle.lvs_model.specs.Lists.{update_first};
 ghost use Rattle.lvs_model.specs.Lookups.{has_service_key, is_server_at, is_server_of};
@@ -16,7 +17,8 @@ use crate::servers::nth;
 use lvs_dests::Dests;
 use lvs_rules::Whole;
 use lvs_services::Services;
-use lvs_types::{Addr, Candidate, Cursor, Dest, DestId, ServiceKey};
+use lvs_types::{Addr, Candidate, Cursor, Dest, DestId, NoMemory, ServiceKey};
+use std::alloc::Global;
 
 /// The one before that of this id; the first one has none.
 fn before(candidates: &[Candidate], id: DestId) -> Option<DestId>
@@ -121,5 +123,17 @@ impl Desk {
         ensures rest { self.new ≡ record self.old { dests = self.new.dests } }
     {
         take_all(&mut self.dests, &key);
+    }
+
+    /// All live servers leave their services. It takes no memory.
+    pub(crate) fn remove_all_servers<W: Whole>(&mut self, _alloc: Global) -> Result<(), NoMemory>
+        requires sound { IsSound W.whole self.old }
+        ensures ok { OnOk result (state_of W.whole self.new ≡ record (state_of W.whole self.old) { dests = remove_dests (λ (d : Dest). d.live) (state_of W.whole self.old).entries (state_of W.whole self.old).templates (state_of W.whole self.old).dests }) }
+        ensures err { OnErr result (self.new ≡ self.old) }
+        ensures sound { IsSound W.whole self.new }
+        ensures rest { self.new ≡ record self.old { dests = self.new.dests } }
+    {
+        self.dests.remove_all();
+        Ok(())
     }
 }

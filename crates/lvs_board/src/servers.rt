@@ -1,5 +1,5 @@
 //! Servers on the desk: look-ups, and how many connections they have.
-ghost use Rattle.std.specs.Prelude.{◌≡◌, ◌+◌, ◌<◌, ◌^◌, ◌&&◌, true, is_some, IfSome, slice_get};
+ghost use Rattle.std.specs.Prelude.{◌≡◌, ◌+◌, ◌<◌, ◌^◌, ◌≤◌, ◌&&◌, true, is_some, length, IfSome, slice_get};
 ghost use Rattle.std.specs.List.{find, list_any};
 ghost use Rattle.lvs_model.specs.Binding.{serves_at};
 ghost use Rattle.lvs_model.specs.Lookups.{dest_at, has_entry_id, is_server_at, is_server_of, servers_of};
@@ -80,6 +80,14 @@ impl Desk {
             return None;
         };
         server_of(&self.dests, candidate.id)
+    }
+
+    /// At least as many as there are servers, live and in the trash.
+    pub(crate) fn count_servers<W: Whole>(&self) -> usize
+        requires sound { IsSound W.whole self.now }
+        ensures { length (state_of W.whole self.now).dests ≤ result }
+    {
+        self.dests.len()
     }
 
     /// How many entries but this one name the server, which is there.
