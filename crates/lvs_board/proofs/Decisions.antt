@@ -18,6 +18,7 @@ use Rattle.lvs_model.specs.WellFormed.{IsWellFormed}
 use Rattle.lvs_model.specs.Step.{step}
 use Rattle.lvs_well_formed.proofs.Lists.{all_weaker}
 use Rattle.lvs_well_formed.proofs.Parts.{Parts, parts_of}
+use Rattle.lvs_rules.proofs.Named.{unnamed_next}
 use Rattle.lvs_rules.specs.Bounds.{HasFewPackets, HasHeadroom}
 use Rattle.lvs_rules.specs.Finds.{entry_in, IsGiven}
 use Rattle.lvs_board.specs.declared.desk.Desk.{Desk}
@@ -69,6 +70,7 @@ begins whole d item f book steps stands well counted young is = record {
   room = headroom whole steps counted young;
   buckets = counted.numbers.buckets;
   apart = record { entries = well.entry_ids.apart; dests = well.dest_ids.apart };
+  unnamed = unnamed_next whole well;
   pending = counted.numbers.flags;
 }
 

@@ -9,7 +9,7 @@ use Rattle.lvs_types.specs.declared.bucket.Found.{Found}
 use Rattle.lvs_types.specs.declared.item.Item.{Item}
 use Rattle.lvs_model.specs.Buckets.{look_up}
 use Rattle.lvs_model.specs.Messages.{HasOldFlags}
-use Rattle.lvs_rules.specs.Bounds.{HasHeadroom}
+use Rattle.lvs_rules.specs.Bounds.{HasHeadroom, IsNextUnnamed}
 use Rattle.lvs_rules.specs.Finds.{entry_in, IsGiven}
 use Rattle.lvs_rules.specs.TooLong.{HaveDistinctIds}
 use Rattle.lvs_board.specs.Desks.{state_of, Holds, IsFree, IsSound}
@@ -62,4 +62,5 @@ pub record IsBegun (whole : State) (item : Item) (found : Found) (home sweep : O
   pub room : HasHeadroom whole
   pub buckets : 0 < whole.buckets
   pub apart : HaveDistinctIds whole
+  pub unnamed : IsNextUnnamed whole
   pub pending : AllByRecursion HasOldFlags whole.pending

@@ -11,7 +11,7 @@ use lvs_types::{
 };
 use std::alloc::Global;
 
-/// No director draws so many ids.
+/// No director draws so many ids: a step draws one of each at most, and there are fewer steps.
 const LAST_ID: u64 = 1 << 62;
 
 /// Whether the next ids of entries and of templates are far from the end.
@@ -93,6 +93,7 @@ impl<W: Whole, H: Home> Tables<AtItem<W, H>> for Desk {
     }
 
     fn make_room(&mut self) -> Result<(), NoMemory> {
+        // No director gets there. To say so would put a bound of the ids into each contract of a rule.
         if !has_ids(self) {
             return Err(NoMemory);
         }
@@ -234,6 +235,7 @@ impl<W: Whole, H: Home> Tables<AtItem<W, H>> for Desk {
     }
 
     fn end_due(&mut self, _alloc: Global, bucket: u32, due: &[Entry]) -> Result<(), NoMemory> {
+        // Never so: the one rule that ends due entries is that of the sweep, and it changes nothing before.
         if !may_sweep(self, bucket) {
             return Err(NoMemory);
         }

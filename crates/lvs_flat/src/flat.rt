@@ -3,7 +3,7 @@ ghost use Rattle.std.specs.Prelude.{◌≡◌, ◌<◌, ◌≤◌, ◌+◌, ◌^
 ghost use Rattle.lvs_model.specs.Messages.{HasOldFlags};
 ghost use Rattle.std.specs.List.{AllByRecursion};
 ghost use Rattle.lvs_flat.specs.Lists.{state_of};
-ghost use Rattle.lvs_rules.specs.Bounds.{HasHeadroom};
+ghost use Rattle.lvs_rules.specs.Bounds.{HasHeadroom, IsNextUnnamed};
 ghost use Rattle.lvs_rules.specs.TooLong.{HaveDistinctIds};
 ghost use Rattle.lvs_model.specs.Snapshots.{snapshot_of};
 ghost use Rattle.lvs_model.specs.State.{initial};
@@ -47,6 +47,7 @@ fn take(alloc: Global, lists: &mut Lists, item: &Item) -> Result<Reply, NoMemory
     requires room { HasHeadroom (state_of lists.old) }
     requires buckets { 0 < lists.old.buckets }
     requires apart { HaveDistinctIds (state_of lists.old) }
+    requires unnamed { IsNextUnnamed (state_of lists.old) }
     requires pending { AllByRecursion HasOldFlags lists.old.pending.items }
     ensures ok { IfOk result (λ r. (r, state_of lists.new) ≡ step (state_of lists.old) item.now) }
     ensures err { OnErr result (state_of lists.new ≡ state_of lists.old) }

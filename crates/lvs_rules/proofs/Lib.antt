@@ -9,3 +9,4 @@ pub mod Finds
 pub mod Records
 pub mod Sweeps
 pub mod Room
+pub mod Named

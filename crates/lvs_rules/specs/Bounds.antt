@@ -1,8 +1,9 @@
--- Numbers that are far from their types' ends.
-use Rattle.std.specs.Prelude.{◌<◌, ◌≤◌, ◌^◌}
+-- Numbers that are far from their types' ends, and an id that nothing names yet.
+use Rattle.std.specs.Prelude.{◌≡◌, ◌<◌, ◌≤◌, ◌^◌}
 use Rattle.std.specs.List.{AllByRecursion}
 use Rattle.lvs_types.specs.declared.entry.Entry.{Entry}
 use Rattle.lvs_model.specs.State.{State}
+use Rattle.lvs_model.specs.Counts.{refs}
 
 abbrev pub HasFewPackets : Entry → Type 0
 HasFewPackets e = e.packets < 2 ^ 63
@@ -14,3 +15,7 @@ pub record HasHeadroom (s : State) : Type 0 where
   pub next_dest : s.next_dest ≤ 2 ^ 62
   pub next_template : s.next_template ≤ 2 ^ 62
   pub packets : AllByRecursion HasFewPackets s.entries
+
+-- no entry and no template names the id that the next new server gets
+abbrev pub IsNextUnnamed : State → Type 0
+IsNextUnnamed s = refs (record { 0 = s.next_dest }) s.entries s.templates ≡ 0

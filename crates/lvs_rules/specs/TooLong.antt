@@ -24,7 +24,7 @@ use Rattle.lvs_model.specs.Binding.{template_tried, server_for_entry, bound_to}
 use Rattle.lvs_model.specs.declared.incoming.Standing.{Standing}
 use Rattle.lvs_model.specs.declared.incoming.Standing.TheVariants.{Reused, ServerGone, InUse}
 use Rattle.lvs_model.specs.Incoming.{standing_of}
-use Rattle.lvs_model.specs.WellFormed.{entry_ids, dest_ids}
+use Rattle.lvs_model.specs.WellFormed.{IsThere, entry_ids, dest_ids}
 use Rattle.lvs_rules.specs.declared.view.Overload.{Overload}
 use Rattle.lvs_rules.specs.declared.view.View.{View}
 use Rattle.lvs_rules.specs.declared.too_long.Bound.{Bound}
@@ -39,6 +39,11 @@ says_too_long other = false
 pub record HaveDistinctIds (s : State) : Type 0 where
   pub entries : IsDistinct nat_eq (entry_ids s.entries)
   pub dests : IsDistinct nat_eq (dest_ids s.dests)
+
+-- the server, if there is one, is in the list by its id
+abbrev pub IfThere : List Dest → Option Dest → Type 0
+IfThere dests None = Unit {0}
+IfThere dests (Some d) = IsThere dests (Some d.id)
 
 -- A NEW CONNECTION
 

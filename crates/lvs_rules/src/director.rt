@@ -6,7 +6,7 @@ ghost use Rattle.lvs_model.specs.Buckets.{look_up};
 ghost use Rattle.lvs_model.specs.Clock.{sweep};
 ghost use Rattle.lvs_model.specs.Messages.{HasOldFlags};
 ghost use Rattle.lvs_model.specs.Step.{step};
-ghost use Rattle.lvs_rules.specs.Bounds.{HasHeadroom};
+ghost use Rattle.lvs_rules.specs.Bounds.{HasHeadroom, IsNextUnnamed};
 ghost use Rattle.lvs_rules.specs.Finds.{entry_in, IsGiven};
 ghost use Rattle.lvs_rules.specs.TooLong.{HaveDistinctIds};
 
@@ -124,6 +124,7 @@ pub fn take_item<W: Whole, T: Tables<W>>(
     requires room { HasHeadroom (T.state tables.old) }
     requires buckets { 0 < (T.state tables.old).buckets }
     requires apart { HaveDistinctIds (T.state tables.old) }
+    requires unnamed { IsNextUnnamed (T.state tables.old) }
     requires pending { AllByRecursion HasOldFlags (T.state tables.old).pending }
     ensures ok { IfOk result (λ r. (r, T.state tables.new) ≡ step (T.state tables.old) item.now) }
     ensures err { OnErr result (T.state tables.new ≡ T.state tables.old) }

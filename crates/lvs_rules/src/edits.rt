@@ -1,5 +1,6 @@
 //! Edits of the tables, the timeouts and the daemons (ipvsadm(8)).
 ghost use Rattle.std.specs.Prelude.{◌≡◌, ◌≤◌, ◌^◌, IfOk, OnErr};
+ghost use Rattle.lvs_rules.specs.Bounds.{IsNextUnnamed};
 ghost use Rattle.lvs_model.specs.Edits.{add_service, edit_service, remove_service, clear, start_master, start_backup, stop_master, stop_backup, with_timeouts, or_kept, set, edit};
 
 use crate::server_edits::{add_server, edit_server, remove_server};
@@ -186,6 +187,7 @@ pub(crate) fn edit<W: Whole, T: Tables<W>>(
 ) -> Result<Reply, NoMemory>
     requires sound { T.is_sound tables.old }
     requires next { (T.state tables.old).next_dest ≤ 2 ^ 62 }
+    requires unnamed { IsNextUnnamed (T.state tables.old) }
     ensures ok { IfOk result (λ r. (r, T.state tables.new) ≡ edit (T.state tables.old) command.now) }
     ensures err { OnErr result (T.state tables.new ≡ T.state tables.old) }
     ensures sound { T.is_sound tables.new }

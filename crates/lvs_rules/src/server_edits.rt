@@ -3,6 +3,7 @@ ghost use Rattle.std.specs.Prelude.{◌≡◌, ◌≤◌, ◌^◌, IfOk, OnErr};
 ghost use Rattle.std.specs.List.{find};
 ghost use Rattle.lvs_types.specs.declared.dest.Dest.{Dest};
 ghost use Rattle.lvs_model.specs.Lookups.{is_server_at};
+ghost use Rattle.lvs_rules.specs.Bounds.{IsNextUnnamed};
 ghost use Rattle.lvs_model.specs.Edits.{add_server, edit_server, remove_server_at, remove_server};
 
 use crate::tables::{Tables, Whole};
@@ -17,6 +18,7 @@ pub(crate) fn add_server<W: Whole, T: Tables<W>>(
 ) -> Result<Reply, NoMemory>
     requires sound { T.is_sound tables.old }
     requires next { (T.state tables.old).next_dest ≤ 2 ^ 62 }
+    requires unnamed { IsNextUnnamed (T.state tables.old) }
     ensures ok { IfOk result (λ r. (r, T.state tables.new) ≡ add_server (T.state tables.old) key spec.now) }
     ensures err { OnErr result (T.state tables.new ≡ T.state tables.old) }
     ensures sound { T.is_sound tables.new }

@@ -40,7 +40,8 @@ pub trait Tables<W: Whole> {
     ghost use Rattle.lvs_model.specs.Edits.{with_fresh_cursor, place_server, is_revivable, respecified, remove_dests, remove_dest};
     ghost use Rattle.lvs_model.specs.Incoming.{end_entry};
     ghost use Rattle.lvs_model.specs.Clock.{is_swept, sweep, reap};
-    ghost use Rattle.lvs_rules.specs.Bounds.{HasHeadroom};
+    ghost use Rattle.lvs_model.specs.WellFormed.{IsThere};
+    ghost use Rattle.lvs_rules.specs.Bounds.{HasHeadroom, IsNextUnnamed};
     ghost use Rattle.lvs_rules.specs.Changes.{HaveSameNames, IsTemplateUpdate, appended, entered};
     ghost use Rattle.lvs_rules.specs.Views.{seen_in};
 
@@ -228,17 +229,20 @@ pub trait Tables<W: Whole> {
         requires room { length (state self.now).dests ≤ vec_capacity addrs.old }
         ensures { addrs.new.items ≡ map (λ (d : Dest). d.spec.addr) (servers_of key (state self.now).dests) };
 
-    /// How many entries but this one name the server.
+    /// How many entries but this one name the server, which is there.
     fn count_others(&self, e: &Entry, id: DestId) -> u64
         requires sound { is_sound self.now }
         requires holds { holds self.now e.now }
+        requires there { IsThere (state self.now).dests (Some id) }
         ensures value { result ≡ total id (without (has_entry_id e.now.id) (state self.now).entries) }
         ensures bound { result + 1 < 2 ^ 64 };
 
-    /// A server comes back from the trash, or a new one comes; it stands last.
+    /// A server comes back from the trash, or a new one comes; it stands last. Nothing names the id
+    /// that a new one gets.
     fn place_server(&mut self, key: ServiceKey, spec: &DestSpec) -> Result<(), NoMemory>
         requires sound { is_sound self.old }
         requires next { (state self.old).next_dest ≤ 2 ^ 62 }
+        requires unnamed { IsNextUnnamed (state self.old) }
         requires service { list_any (has_service_key key) (state self.old).services ≡ true }
         requires fresh { list_any (is_server_at key spec.now.addr spec.now.port) (state self.old).dests ≡ false }
         requires thresholds { has_bad_thresholds spec.now ≡ false }

@@ -1,12 +1,13 @@
 //! Whether a packet is too long for its tunnel: told before anything changes, and by reading alone.
-ghost use Rattle.std.specs.Prelude.{◌≡◌, ◌+◌, ◌<◌, ◌^◌, IfSome, length};
+ghost use Rattle.std.specs.Prelude.{◌≡◌, ◌+◌, ◌<◌, ◌^◌, Some, IfSome, length};
 ghost use Rattle.lvs_rules.specs.Packets.{packet_of, ServesAll};
 ghost use Rattle.lvs_rules.specs.Views.{seen_in};
-ghost use Rattle.lvs_rules.specs.TooLong.{HaveDistinctIds, says_too_long, exceeds_to, choice_in, exceeds_choice, exceeds_pick, exceeds_used, exceeds_tried, exceeds_template, exceeds_service, exceeds_connection, overload_left, view_after, dest_bound, bound_with, bound_in, exceeds_bound, exceeds_arrived};
+ghost use Rattle.lvs_rules.specs.TooLong.{HaveDistinctIds, IfThere, says_too_long, exceeds_to, choice_in, exceeds_choice, exceeds_pick, exceeds_used, exceeds_tried, exceeds_template, exceeds_service, exceeds_connection, overload_left, view_after, dest_bound, bound_with, bound_in, exceeds_bound, exceeds_arrived};
 ghost use Rattle.lvs_model.specs.Counts.{total};
 ghost use Rattle.lvs_model.specs.Lists.{without};
 ghost use Rattle.lvs_model.specs.Lookups.{entry_at, has_entry_id};
 ghost use Rattle.lvs_model.specs.Packets.{key_of};
+ghost use Rattle.lvs_model.specs.WellFormed.{IsThere};
 ghost use Rattle.lvs_model.specs.Incoming.{arrive};
 
 use crate::binding::{bound, find_for_entry, tried};
@@ -152,6 +153,7 @@ fn left_overload<W: Whole, T: Tables<W>>(
 ) -> Option<Overload>
     requires sound { T.is_sound tables.now }
     requires holds { T.holds tables.now e.now }
+    requires there { IfThere (T.state tables.now).dests server }
     ensures { result ≡ overload_left (without (has_entry_id e.now.id) (T.state tables.now).entries) server }
 {
     match server {
@@ -167,6 +169,7 @@ fn left_overload<W: Whole, T: Tables<W>>(
 fn without_entry<W: Whole, T: Tables<W>>(tables: &T, e: &Entry, server: Option<Dest>) -> View
     requires sound { T.is_sound tables.now }
     requires holds { T.holds tables.now e.now }
+    requires there { IfThere (T.state tables.now).dests server }
     ensures { result ≡ view_after (T.state tables.now) e.now server }
 {
     View {
@@ -189,6 +192,7 @@ pub(crate) struct Bound {
 fn with_entry<W: Whole, T: Tables<W>>(tables: &T, e: &Entry, d: &Dest) -> Dest
     requires sound { T.is_sound tables.now }
     requires holds { T.holds tables.now e.now }
+    requires there { IsThere (T.state tables.now).dests (Some d.now.id) }
     ensures { result ≡ dest_bound (T.state tables.now) e.now d.now }
 {
     let total = tables.count_others(e, d.id) + 1;
@@ -201,8 +205,10 @@ fn with_entry<W: Whole, T: Tables<W>>(tables: &T, e: &Entry, d: &Dest) -> Dest
 fn bound_by<W: Whole, T: Tables<W>>(tables: &T, e: Entry, server: Option<Dest>) -> Bound
     requires sound { T.is_sound tables.now }
     requires holds { T.holds tables.now e }
+    requires there { IfThere (T.state tables.now).dests server }
     ensures bound { result ≡ bound_with (T.state tables.now) e server }
     ensures found { result.found ≡ e }
+    ensures there { IfThere (T.state tables.now).dests result.server }
 {
     match server {
         None => Bound {
@@ -219,11 +225,13 @@ fn bound_by<W: Whole, T: Tables<W>>(tables: &T, e: Entry, server: Option<Dest>) 
 }
 
 /// The entry as it would be bound, and the server that it would name.
+#[tactic(auto, using(crate::proofs::Named::there_by_id, crate::proofs::Named::there_for_entry))]
 fn as_bound<W: Whole, T: Tables<W>>(tables: &T, e: Entry) -> Bound
     requires sound { T.is_sound tables.now }
     requires holds { T.holds tables.now e }
     ensures bound { result ≡ bound_in (T.state tables.now) e e.server }
     ensures found { result.found ≡ e }
+    ensures there { IfThere (T.state tables.now).dests result.server }
 {
     match e.server {
         Some(id) => Bound {
@@ -247,6 +255,7 @@ fn exceeds_known<W: Whole, T: Tables<W>>(
 ) -> bool
     requires sound { T.is_sound tables.now }
     requires holds { T.holds tables.now b.now.found }
+    requires there { IfThere (T.state tables.now).dests b.now.server }
     requires lists { ServesAll lists (length (T.state tables.now).dests) }
     ensures { result ≡ exceeds_bound (T.state tables.now) (packet_of p.now) b.now }
 {

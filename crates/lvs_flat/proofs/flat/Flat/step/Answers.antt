@@ -6,6 +6,7 @@ use Rattle.lvs_model.proofs.CountedLemmas.{counted_step}
 use Rattle.lvs_well_formed.proofs.Steps.{step_well_formed}
 use Rattle.lvs_flat.specs.Lists.{state_of}
 use Rattle.lvs_flat.specs.Seen.{FlatSeen}
+use Rattle.lvs_rules.proofs.Named.{unnamed_next}
 use Rattle.lvs_rules.proofs.Room.{room_of_young}
 use Rattle.lvs_flat.proofs.flat.Flat.step.Goals as goal
 
@@ -14,6 +15,9 @@ take-requires-clause-room c = room_of_young c.self.inside.steps (state_of c.self
 
 pub take-requires-clause-apart : goal.take-requires-clause-apart
 take-requires-clause-apart c = record { entries = c.self.invariant.1.entry_ids.apart; dests = c.self.invariant.1.dest_ids.apart }
+
+pub take-requires-clause-unnamed : goal.take-requires-clause-unnamed
+take-requires-clause-unnamed c = unnamed_next (state_of c.self.inside.lists) c.self.invariant.1
 
 pub invariant_of-self-2 : goal.invariant_of-self-2
 invariant_of-self-2 c =
