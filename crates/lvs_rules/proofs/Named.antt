@@ -76,9 +76,9 @@ unnamed_next s well =
     let drawn = all_unmap (IsDrawn s.next_dest) (λ (d : Dest). d.id.0) s.dests well.dest_ids.each in
     let other : (o : Option DestId) → IsThere s.dests o → dest_eq o next ≡ false = λ o there. not_next s.next_dest s.dests o drawn there in
     let of_active : active next s.entries ≡ 0 =
-        count_zero (counts_active next) s.entries (all_weaker (HasServer s.dests) (λ (e : Entry). counts_active next e ≡ false) s.entries (λ e there. neither (dest_eq e.server next) (is_active e.state) (other e.server there)) well.entry_servers) in
+    count_zero (counts_active next) s.entries (all_weaker (HasServer s.dests) (λ (e : Entry). counts_active next e ≡ false) s.entries (λ e there. neither (dest_eq e.server next) (is_active e.state) (other e.server there)) well.entry_servers) in
     let of_inactive : inactive next s.entries ≡ 0 =
-        count_zero (counts_inactive next) s.entries (all_weaker (HasServer s.dests) (λ (e : Entry). counts_inactive next e ≡ false) s.entries (λ e there. neither (dest_eq e.server next) (not (is_active e.state)) (other e.server there)) well.entry_servers) in
+    count_zero (counts_inactive next) s.entries (all_weaker (HasServer s.dests) (λ (e : Entry). counts_inactive next e ≡ false) s.entries (λ e there. neither (dest_eq e.server next) (not (is_active e.state)) (other e.server there)) well.entry_servers) in
     let of_templates : template_count next s.templates ≡ 0 =
-        count_zero (λ (t : Template). dest_eq t.server next) s.templates (all_weaker (TemplateHasServer s.dests) (λ (t : Template). dest_eq t.server next ≡ false) s.templates (λ t there. other t.server there) well.template_servers) in
+    count_zero (λ (t : Template). dest_eq t.server next) s.templates (all_weaker (TemplateHasServer s.dests) (λ (t : Template). dest_eq t.server next ≡ false) s.templates (λ t there. other t.server there) well.template_servers) in
     omega (arith, of_active, of_inactive, of_templates)
