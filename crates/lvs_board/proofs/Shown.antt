@@ -1,5 +1,6 @@
 -- What the tables show is the snapshot of the state that they stand for, but its entries.
 use Rattle.std.proofs.Common.{◌≡◌, ℕ, suc, ◌+◌, ◌<◌, Bool, true, false, not, cond, refl, sym, ap, subst, ◌∙◌, List, [], ◌∷◌, ◌++◌, map, length, slice_index, arith}
+use Rattle.std.specs.Prelude.{Result, Ok, Err, IfOk}
 use Rattle.std.specs.List.{AllByRecursion, filter, flat_map}
 use Rattle.std.specs.List.Sorted.{IsStrictlyIncreasing}
 use Rattle.lvs_types.specs.declared.service.Service.{Service}
@@ -21,6 +22,16 @@ use Rattle.lvs_templates.specs.Rows.{IsRising}
 use Rattle.lvs_board.specs.Seen.{TablesSeen, BoardSeen}
 use Rattle.lvs_board.specs.Stands.{state_in, AreTotalled, StandsFor, shown_tables}
 use Rattle.lvs_board.specs.Shown.{live_rows, shown_rows, shown_of}
+
+-- ---- answers
+
+pub ok_then : {X E : Type 0} (P Q : X → Type 0) → ((x : X) → P x → Q x) → (r : Result X E) → IfOk r P → IfOk r Q
+ok_then P Q h (Ok x) it = h x it
+ok_then P Q h (Err e) it = it
+
+pub ok_both : {X E : Type 0} (P Q R : X → Type 0) → ((x : X) → P x → Q x → R x) → (r : Result X E) → IfOk r P → IfOk r Q → IfOk r R
+ok_both P Q R h (Ok x) it that = h x it that
+ok_both P Q R h (Err e) it that = it
 
 -- ---- templates
 

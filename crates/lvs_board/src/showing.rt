@@ -13,11 +13,7 @@ use lvs_types::{DestRow, Listed, NoMemory, Service, Snapshot, Template};
 use std::alloc::Global;
 
 /// The live servers, service by service.
-fn list_live(
-    alloc: Global,
-    services: &[Service],
-    dests: &Dests,
-) -> Result<Vec<DestRow>, NoMemory>
+fn list_live(alloc: Global, services: &[Service], dests: &Dests) -> Result<Vec<DestRow>, NoMemory>
     ensures { IfOk result (λ rows. rows.items ≡ live_rows services.now dests.now.rows) }
 {
     let mut rows = Vec::new(alloc);
