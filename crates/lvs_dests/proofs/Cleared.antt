@@ -1,13 +1,12 @@
 -- The walk in which all live servers leave their services.
-use Rattle.std.proofs.Common.{◌≡◌, ◌≢◌, ℕ, ◌<◌, ◌≤◌, ◌+◌, inl, inr, Bool, true, false, ◌&&◌, cond, refl, sym, ap, ◌∙◌, subst, List, [], ◌∷◌, Option, Some, None, map, filter_map, arith, length, if◌then◌else◌}
-use Rattle.std.specs.List.{AllByRecursion, cons_option, filter}
+use Rattle.std.proofs.Common.{◌≡◌, ◌≢◌, ℕ, ◌<◌, ◌≤◌, ◌+◌, inl, inr, Bool, true, false, cond, refl, sym, ap, ◌∙◌, subst, List, [], ◌∷◌, Option, Some, None, map, filter_map, arith, length, if◌then◌else◌}
+use Rattle.std.specs.List.{cons_option, filter}
 use Rattle.std.specs.Option.{option_map, option_and_then}
 use Rattle.std.proofs.lemmas.Bool.{cases_lt, cases_eq}
 use Rattle.std.proofs.lemmas.List.{get_or_past}
 use Rattle.std.proofs.lemmas.Option.{none-some, same_Some}
 use Rattle.lvs_types.specs.declared.service.ServiceKey.{ServiceKey}
 use Rattle.lvs_types.specs.declared.dest.DestRow.{DestRow}
-use Rattle.lvs_types.specs.declared.dest.Candidate.{Candidate}
 use Rattle.lvs_model.specs.Same.{service_key_eq}
 use Rattle.lvs_model.specs.Lists.{sorted_by}
 use Rattle.lvs_dests.specs.declared.place.ServiceName.{ServiceName}

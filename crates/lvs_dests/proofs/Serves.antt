@@ -1,12 +1,11 @@
 -- The first of a service's live servers that serves is the first of all servers that does.
-use Rattle.std.proofs.Common.{◌≡◌, ℕ, Bool, true, false, ◌&&◌, cond, refl, ap, ◌∙◌, List, [], ◌∷◌, Option, Some, None, map, filter_map}
+use Rattle.std.proofs.Common.{◌≡◌, ℕ, Bool, true, false, ◌&&◌, cond, refl, ap, ◌∙◌, List, [], ◌∷◌, Option, Some, None, map}
 use Rattle.std.specs.List.{AllByRecursion, cons_option, find, filter}
 use Rattle.std.specs.Option.{option_map, option_or}
 use Rattle.lvs_types.specs.declared.addr.Addr.{Addr}
 use Rattle.lvs_types.specs.declared.service.ServiceKey.{ServiceKey}
 use Rattle.lvs_types.specs.declared.dest.Dest.{Dest}
 use Rattle.lvs_types.specs.declared.dest.DestRow.{DestRow}
-use Rattle.lvs_types.specs.declared.dest.Candidate.{Candidate}
 use Rattle.lvs_model.specs.Binding.{serves_at}
 use Rattle.lvs_dests.specs.Rows.{row_at, is_row_of, candidate_of_row, candidates_of, is_row_serving, serving}
 use Rattle.lvs_dests.specs.Pool.{DifferInId}

@@ -325,3 +325,36 @@ fn an_event_to_come_is_told_and_changes_nothing(rt: HostRuntime) -> Result<(), F
     assert_eq!(rt; first(dests.candidates(&WEB)), Some((1, false)));
     Ok(())
 }
+
+/// The ids of some servers, and how many connections they have.
+fn shown(rows: &[DestRow]) -> [Option<(DestId, u64)>; 3] {
+    let each = |place: usize| rows.get(place).map(|row| (row.dest.id, row.active));
+    [each(0), each(1), each(2)]
+}
+
+#[test]
+fn a_listing_shows_the_live_by_service_and_the_trash_by_id(rt: HostRuntime) -> Result<(), Fail> {
+    let alloc = rt.alloc();
+    let mut dests = Dests::new(alloc)?;
+    assert_eq!(rt; add(&mut dests, &WEB, &server(B)), Ok(DestId(1)));
+    assert_eq!(rt; add(&mut dests, &MARKED, &server(A)), Ok(DestId(2)));
+    assert_eq!(rt; add(&mut dests, &WEB, &server(A)), Ok(DestId(3)));
+    bind(&mut dests, DestId(1), true);
+    bind(&mut dests, DestId(3), true);
+    assert_eq!(rt; dests.len(), 3);
+    let mut rows = Vec::new(alloc);
+    dests.push_live(&WEB, &mut rows)?;
+    assert_eq!(rt;
+        shown(&rows),
+        [Some((DestId(1), 1)), Some((DestId(3), 1)), None]
+    );
+    dests.remove_all();
+    assert_eq!(rt; dests.len(), 2);
+    let trashed = dests.trashed(alloc)?;
+    assert_eq!(rt;
+        shown(&trashed),
+        [Some((DestId(1), 1)), Some((DestId(3), 1)), None]
+    );
+    assert_eq!(rt; dests.candidates(&WEB).len(), 0);
+    Ok(())
+}

@@ -1,4 +1,4 @@
-use Rattle.std.proofs.Common.{◌∙◌, ap, subst}
+use Rattle.std.proofs.Common.{◌∙◌, ap}
 use Rattle.lvs_board.specs.Seen.{BoardSeen}
 use Rattle.lvs_board.specs.Shown.{shown_of}
 use Rattle.lvs_board.proofs.Shown.{ok_then, shown_is}

@@ -1,4 +1,4 @@
-use Rattle.std.proofs.Common.{◌∙◌, ap, sym, subst, ◌≤◌, ◌==◌, ℕ, List, count_by}
+use Rattle.std.proofs.Common.{◌∙◌, ap, sym, subst, ◌≤◌, ◌==◌, List, count_by}
 use Rattle.lvs_types.specs.declared.dest.DestRow.{DestRow}
 use Rattle.lvs_model.specs.Lists.{sorted_by}
 use Rattle.lvs_dests.proofs.Whole.{pool_apart}
