@@ -1,5 +1,5 @@
 -- A change of the desk is one of the item.
-use Rattle.std.proofs.Common.{◌≡◌, ◌<◌, ℕ, Option, Some, None, refl, sym, ◌∙◌, ap, subst}
+use Rattle.std.proofs.Common.{◌≡◌, ℕ, Option, Some, sym, ◌∙◌, subst}
 use Rattle.std.specs.Prelude.{IfSome}
 use Rattle.std.specs.List.{find}
 use Rattle.lvs_types.specs.declared.entry.Entry.{Entry}
@@ -10,7 +10,7 @@ use Rattle.lvs_model.specs.Lookups.{has_entry_id}
 use Rattle.lvs_model.specs.Clock.{is_swept}
 use Rattle.lvs_board.specs.declared.desk.Desk.{Desk}
 use Rattle.lvs_board.specs.declared.desk.Sweep.{Sweep}
-use Rattle.lvs_board.specs.Desks.{after, state_of, with_entry, Holds, IsAbout, IsFree, IsSound}
+use Rattle.lvs_board.specs.Desks.{after, with_entry, Holds, IsAbout, IsFree, IsSound}
 use Rattle.lvs_board.specs.Homes.{IsSweptAt}
 use Rattle.lvs_board.specs.AtItems.{IsAtItem, IsSweepOf}
 

@@ -1,32 +1,30 @@
 -- A board that decides an item begins where it stands for the state, and ends where it stands for the next one.
-use Rattle.std.proofs.Common.{◌≡◌, ◌+◌, ◌<◌, ◌≤◌, ◌^◌, ℕ, List, [], ◌∷◌, Option, Some, None, refl, sym, ◌∙◌, ap, subst, arith}
+use Rattle.std.proofs.Common.{◌≡◌, ◌<◌, ◌^◌, ℕ, List, Option, Some, None, refl, sym, ◌∙◌, ap, subst, arith}
 use Rattle.std.specs.Prelude.{IfSome}
-use Rattle.std.specs.List.{AllByRecursion, find}
+use Rattle.std.specs.List.{find}
 use Rattle.lvs_types.specs.declared.book.Noted.{Noted}
 use Rattle.lvs_types.specs.declared.bucket.Change.TheVariants.{Keep}
 use Rattle.lvs_types.specs.declared.bucket.Found.{Found}
 use Rattle.lvs_types.specs.declared.bucket.Found.TheVariants as found
 use Rattle.lvs_types.specs.declared.entry.Entry.{Entry}
 use Rattle.lvs_types.specs.declared.item.Item.{Item}
-use Rattle.lvs_types.specs.declared.reply.Reply.{Reply}
 use Rattle.lvs_model.specs.State.{State}
 use Rattle.lvs_model.specs.Lookups.{has_entry_id}
-use Rattle.lvs_model.specs.Buckets.{entries_of, home, look_at, look_up, Carries}
+use Rattle.lvs_model.specs.Buckets.{look_up, Carries}
 use Rattle.lvs_model.specs.Clock.{is_swept}
 use Rattle.lvs_model.specs.Counted.{IsCounted, IsCountedEntry}
 use Rattle.lvs_model.specs.WellFormed.{IsWellFormed}
 use Rattle.lvs_model.specs.Step.{step}
 use Rattle.lvs_well_formed.proofs.Lists.{all_weaker}
-use Rattle.lvs_well_formed.proofs.Parts.{Parts, parts_of}
+use Rattle.lvs_well_formed.proofs.Parts.{parts_of}
 use Rattle.lvs_rules.proofs.Named.{unnamed_next}
 use Rattle.lvs_rules.specs.Bounds.{HasFewPackets, HasHeadroom}
 use Rattle.lvs_rules.specs.Finds.{entry_in, IsGiven}
 use Rattle.lvs_board.specs.declared.desk.Desk.{Desk}
-use Rattle.lvs_board.specs.declared.desk.Sweep.{Sweep}
 use Rattle.lvs_board.specs.Stands.{StandsFor}
 use Rattle.lvs_board.specs.Seen.{BoardSeen}
-use Rattle.lvs_board.specs.Desks.{after, seen_of, state_of, Holds, IsAbout, IsFree, IsOfItem, IsSound}
-use Rattle.lvs_board.specs.Homes.{id_of, sweep_of, IsSweptAt}
+use Rattle.lvs_board.specs.Desks.{after, seen_of, state_of, Holds, IsAbout, IsFree, IsOfItem}
+use Rattle.lvs_board.specs.Homes.{id_of, sweep_of}
 use Rattle.lvs_board.specs.AtItems.{for_item, sweep_at, IsAtItem, IsBegun, IsSweepOf}
 use Rattle.lvs_board.proofs.Items.{begins_sound}
 use Rattle.lvs_board.proofs.ItemSteps.{carries, look_inside}

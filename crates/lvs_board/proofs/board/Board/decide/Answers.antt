@@ -1,4 +1,4 @@
-use Rattle.std.proofs.Common.{◌≡◌, ◌<◌, ◌^◌, sym, ap, subst}
+use Rattle.std.proofs.Common.{◌<◌, ◌^◌, sym, ap, subst}
 use Rattle.lvs_types.specs.declared.reply.Reply.{Reply}
 use Rattle.lvs_model.specs.State.{State}
 use Rattle.lvs_model.specs.Counted.{IsCounted}
