@@ -60,7 +60,11 @@ impl Directors {
     }
 
     /// Whether both can take the item. Those of scripts they can, until they have taken 2^62.
-    fn can_take(&self, item: &Item) -> bool {
+    fn can_take(&self, item: &Item) -> bool
+        ensures in_range { result ≡ true → IsInRange item.now }
+        ensures plain { result ≡ true → self.now.plain.steps < 2 ^ 62 }
+        ensures core { result ≡ true → self.now.core.steps < 2 ^ 62 }
+    {
         is_in_range(item) && self.plain.steps() < MOST_STEPS && self.core.steps() < MOST_STEPS
     }
 

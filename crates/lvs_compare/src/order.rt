@@ -22,7 +22,11 @@ pub(crate) fn draw_shares(chance: &mut Chance) -> Shares
 {
     Shares {
         workers: 1 + chance.below(4),
-        buckets: 1 << (2 * chance.below(3)),
+        buckets: match chance.below(3) {
+            0 => 1,
+            1 => 4,
+            _ => 16,
+        },
     }
 }
 
@@ -33,6 +37,15 @@ fn queues_of(alloc: Global, lists: Vec<Listed<Item>>) -> Result<Vec<VecDeque<Ite
         queues.push(VecDeque::from(items.into_vec()))?;
     }
     Ok(queues)
+}
+
+/// How many items they have.
+fn count_items(queues: &[VecDeque<Item>]) -> usize {
+    let mut count = 0usize;
+    for queue in queues {
+        count = count.saturating_add(queue.len());
+    }
+    count
 }
 
 /// The first item of the first list that has one.
@@ -71,8 +84,10 @@ fn append_round(
     let plan = plan(alloc, round, shares.workers, shares.buckets)?;
     let mut queues = queues_of(alloc, plan.lists.into_vec())?;
     items.push(Item::Tick(round.moment))?;
-    while let Some(item) = next_of(&mut queues, chance) {
-        items.push(item)?;
+    for _ in 0..count_items(&queues) {
+        if let Some(item) = next_of(&mut queues, chance) {
+            items.push(item)?;
+        }
     }
     Ok(())
 }

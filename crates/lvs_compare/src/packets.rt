@@ -24,12 +24,7 @@ struct Side {
 }
 
 /// Appends a TCP header (RFC 9293) with a checksum of 0.
-fn put_tcp(
-    out: &mut Vec<u8>,
-    from: Side,
-    to: Side,
-    flags: u8,
-) -> Result<(), NoMemory> {
+fn put_tcp(out: &mut Vec<u8>, from: Side, to: Side, flags: u8) -> Result<(), NoMemory> {
     out.extend_from_slice(&from.port.to_be_bytes())?;
     out.extend_from_slice(&to.port.to_be_bytes())?;
     out.extend_from_slice(&[0, 0, 0, 1, 0, 0, 0, 0, 0x50, flags, 0x20, 0, 0, 0, 0, 0])?;
@@ -42,29 +37,23 @@ fn put_udp(
     chance: &mut Chance,
     from: Side,
     to: Side,
-    data: u16,
+    load: u16,
 ) -> Result<(), NoMemory>
-    requires { data ≤ 65507 }
+    requires { load ≤ 65507 }
 {
     out.extend_from_slice(&from.port.to_be_bytes())?;
     out.extend_from_slice(&to.port.to_be_bytes())?;
-    out.extend_from_slice(&(8 + data).to_be_bytes())?;
+    out.extend_from_slice(&(8 + load).to_be_bytes())?;
     let sum = if chance.once_in(2) { 0 } else { chance.byte() };
     out.extend_from_slice(&[0, sum])?;
-    for _ in 0..data {
+    for _ in 0..load {
         out.push(0)?;
     }
     Ok(())
 }
 
 /// Appends an IP header (RFC 791) with a checksum of 0.
-fn put_ip(
-    out: &mut Vec<u8>,
-    code: u8,
-    total: u16,
-    from: Addr,
-    to: Addr,
-) -> Result<(), NoMemory> {
+fn put_ip(out: &mut Vec<u8>, code: u8, total: u16, from: Addr, to: Addr) -> Result<(), NoMemory> {
     out.extend_from_slice(&[0x45, 0])?;
     out.extend_from_slice(&total.to_be_bytes())?;
     out.extend_from_slice(&[0, 7, 0x40, 0, 64, code, 0, 0])?;
@@ -107,12 +96,7 @@ fn data_len(chance: &mut Chance) -> u16
 }
 
 /// A packet from one side to the other.
-fn packet(
-    alloc: Global,
-    chance: &mut Chance,
-    from: Side,
-    to: Side,
-) -> Result<Vec<u8>, NoMemory> {
+fn packet(alloc: Global, chance: &mut Chance, from: Side, to: Side) -> Result<Vec<u8>, NoMemory> {
     let mut bytes = Vec::new(alloc);
     if chance.once_in(3) {
         let data = data_len(chance);
