@@ -63,7 +63,7 @@ fn put_moment(out: &mut Vec<u8>, moment: u64) -> Result<(), NoMemory> {
 
 /// Appends services, servers and daemons.
 fn put_opening(out: &mut Vec<u8>, chance: &mut Chance) -> Result<(), NoMemory> {
-    for number in 0..72 {
+    for number in 0..72u32 {
         match number {
             0..=15 => put_new_service(out, chance)?,
             16..=67 => put_new_server(out, chance)?,
