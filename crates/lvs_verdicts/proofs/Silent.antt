@@ -50,7 +50,7 @@ fills_clock zero place next s t items queues few is =
     let number : next ≡ next + 0 = omega arith in
     let at : place ≡ place + 0 = omega arith in
     subst (λ (n : ℕ). Fills (queue_at next items ∷ queues) (queue_at n items ∷ queues) place (place + 0) s t) number
-      (subst (λ (n : ℕ). Fills (queue_at next items ∷ queues) (queue_at next items ∷ queues) place n s t) at (fills_none (queue_at next items ∷ queues) place s t cc))
+    (subst (λ (n : ℕ). Fills (queue_at next items ∷ queues) (queue_at next items ∷ queues) place n s t) at (fills_none (queue_at next items ∷ queues) place s t cc))
 fills_clock (suc count) place next s t [] queues few is = absurd (omega arith)
 fills_clock (suc count) place next s t (first ∷ items) queues few is =
     let own = step s first in
@@ -59,7 +59,7 @@ fills_clock (suc count) place next s t (first ∷ items) queues few is =
     let number : next + 1 + count ≡ next + suc count = omega arith in
     let at : place + 1 + count ≡ place + suc count = omega arith in
     subst (λ (n : ℕ). Fills (queue_at next (first ∷ items) ∷ queues) (queue_at n (drop count items) ∷ queues) place (place + suc count) s t) number
-      (subst (λ (n : ℕ). Fills (queue_at next (first ∷ items) ∷ queues) (queue_at (next + 1 + count) (drop count items) ∷ queues) place n s t) at (fills_more queues _ place (place + 1 + count) next s t first items both.0 rest))
+    (subst (λ (n : ℕ). Fills (queue_at next (first ∷ items) ∷ queues) (queue_at (next + 1 + count) (drop count items) ∷ queues) place n s t) at (fills_more queues _ place (place + 1 + count) next s t first items both.0 rest))
 
 -- before the first round there is no list, and nothing to fill
 pub fills : (count place : ℕ) (s t : State) (queues : List Queue) → count ≤ length (clock_of queues).items → run_silently place (clock_of queues).next s (take count (clock_of queues).items) ≡ Ok t → Fills queues (set queues 0 (skipped count (clock_of queues))) place (place + count) s t

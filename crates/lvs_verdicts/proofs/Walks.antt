@@ -45,7 +45,7 @@ get_other queues i j new other = get_apart queues i j new (λ same. let is = eq-
 abbrev pub AreAllOf : Queue → List Noted → Type 0
 AreAllOf q acts = AreFrom q.next q.items acts × (length acts ≡ length q.items)
 
-empty_by : (queues : List Queue) (i : ℕ) (q : Queue) → list_all is_used_up queues ≡ true → slice_get queues i ≡ Some q → 0 ≡ length q.items
+pub empty_by : (queues : List Queue) (i : ℕ) (q : Queue) → list_all is_used_up queues ≡ true → slice_get queues i ≡ Some q → 0 ≡ length q.items
 empty_by [] i q all is = cc
 empty_by (x ∷ queues) zero q all is =
     let used : is_used_up x ≡ true = first_of_and _ _ all in
