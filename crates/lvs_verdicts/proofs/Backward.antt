@@ -37,7 +37,7 @@ use Rattle.lvs_verdicts.proofs.Silent.{Fills, fills}
 
 -- RESULTS
 
-abbrev Judged : Type 0
+abbrev pub Judged : Type 0
 Judged = Result Progress Verdict
 
 pub then_ok : {A B E : Type 0} (r : Result A E) (f : A → Result B E) (y : B) → (r >>= f) ≡ Ok y → (x : A) × (r ≡ Ok x) × (f x ≡ Ok y)
@@ -48,26 +48,26 @@ progress_in : Progress → Judged → Progress
 progress_in other (Ok p) = p
 progress_in other (Err why) = other
 
-same_ok : (p q : Progress) → ◌≡◌ {A = Judged} (Ok p) (Ok q) → p ≡ q
+pub same_ok : (p q : Progress) → ◌≡◌ {A = Judged} (Ok p) (Ok q) → p ≡ q
 unfolding progress_in
 same_ok p q is = ap (progress_in p) is
 
-not_unreadable : {A : Type 0} (b : Bool) (at : ReportText) (r : Result A Verdict) (y : A) → cond b (unreadable at) r ≡ Ok y → (b ≡ false) × (r ≡ Ok y)
+pub not_unreadable : {A : Type 0} (b : Bool) (at : ReportText) (r : Result A Verdict) (y : A) → cond b (unreadable at) r ≡ Ok y → (b ≡ false) × (r ≡ Ok y)
 not_unreadable true at r y is = absurd cc
 not_unreadable false at r y is = (refl, is)
 
-readable : {A : Type 0} (b : Bool) (at : ReportText) (r : Result A Verdict) (y : A) → cond b r (unreadable at) ≡ Ok y → (b ≡ true) × (r ≡ Ok y)
+pub readable : {A : Type 0} (b : Bool) (at : ReportText) (r : Result A Verdict) (y : A) → cond b r (unreadable at) ≡ Ok y → (b ≡ true) × (r ≡ Ok y)
 readable true at r y is = (refl, is)
 readable false at r y is = absurd cc
 
-same_text : (xs ys : List ℕ) → bytes_eq xs ys ≡ true → xs ≡ ys
+pub same_text : (xs ys : List ℕ) → bytes_eq xs ys ≡ true → xs ≡ ys
 same_text xs ys is = (bytes_eq-Decides xs ys).0 is
 
 text_by : (b : Bool) (at : ReportText) (expected : List ℕ) (u : Unit {0}) → cond b (Ok tt) (Err (verdict.Illegal at.number expected at.text)) ≡ Ok u → b ≡ true
 text_by true at expected u is = refl
 text_by false at expected u is = absurd cc
 
-text_is : (at : ReportText) (expected : List ℕ) (u : Unit {0}) → checked_text at expected ≡ Ok u → at.text ≡ expected
+pub text_is : (at : ReportText) (expected : List ℕ) (u : Unit {0}) → checked_text at expected ≡ Ok u → at.text ≡ expected
 text_is at expected u is = same_text at.text expected (text_by (bytes_eq at.text expected) at expected u is)
 
 -- WHAT IS LEFT OF A REPORT
@@ -92,7 +92,7 @@ pub record IsRest (sizes : Sizes) (p : Progress) (text : List ℕ) : Type 0 wher
 
 -- A LINE OF AN OPEN LISTING
 
-rest_due : (sizes : Sizes) (p : Progress) (expected : List ℕ) (later : List (List ℕ)) (rest : List ℕ) → p.due ≡ expected ∷ later → IsRest sizes (record p { due = later }) rest → IsRest sizes p (expected ++ 10 ∷ rest)
+pub rest_due : (sizes : Sizes) (p : Progress) (expected : List ℕ) (later : List (List ℕ)) (rest : List ℕ) → p.due ≡ expected ∷ later → IsRest sizes (record p { due = later }) rest → IsRest sizes p (expected ++ 10 ∷ rest)
 rest_due sizes p expected later rest due r = record {
   acts = r.acts;
   left = r.left;
@@ -188,7 +188,7 @@ place_by true b at u is = absurd cc
 place_by false true at u is = absurd cc
 place_by false false at u is = refl
 
-act_back : (sizes : Sizes) (at : ReportText) (place actor number : ℕ) (p q : Progress) (rest : List ℕ) → act_judged at place actor number p ≡ Ok q → p.due ≡ [] → (at.text ≡ [] → ⊥) → IsRest sizes q rest → IsRest sizes p (at.text ++ 10 ∷ rest)
+pub act_back : (sizes : Sizes) (at : ReportText) (place actor number : ℕ) (p q : Progress) (rest : List ℕ) → act_judged at place actor number p ≡ Ok q → p.due ≡ [] → (at.text ≡ [] → ⊥) → IsRest sizes q rest → IsRest sizes p (at.text ++ 10 ∷ rest)
 act_back sizes at place actor number p q rest is closed some r =
     let taken : Progress → Judged = λ f. actor_taken at actor number (slice_get f.queues actor) f in
     let checked = then_ok (checked_place at place p) (λ (_ : Unit {0}). filled at (place - p.place) p >>= taken) q is in
@@ -208,19 +208,19 @@ nothing_left queues s (act ∷ acts) left all walk =
     absurd (omega arith)
 
 -- behind the acts of a round nothing is left of its lists
-record HasEnded (sizes : Sizes) (p e : Progress) : Type 0 where
-  due : e.due ≡ p.due
-  used : list_all is_used_up e.queues ≡ true
-  back : (text : List ℕ) → IsRest sizes e text → IsRest sizes p text
+pub record HasEnded (sizes : Sizes) (p e : Progress) : Type 0 where
+  pub due : e.due ≡ p.due
+  pub used : list_all is_used_up e.queues ≡ true
+  pub back : (text : List ℕ) → IsRest sizes e text → IsRest sizes p text
 
-not_false : (b : Bool) → not b ≡ false → b ≡ true
+pub not_false : (b : Bool) → not b ≡ false → b ≡ true
 not_false true is = refl
 not_false false is = absurd cc
 
 ended_same : (sizes : Sizes) (p f e : Progress) → f ≡ e → HasEnded sizes p f → HasEnded sizes p e
 ended_same sizes p f e same ended = subst (λ (x : Progress). HasEnded sizes p x) same ended
 
-acts_back : (sizes : Sizes) (at : ReportText) (p e : Progress) → acts_ended at p ≡ Ok e → HasEnded sizes p e
+pub acts_back : (sizes : Sizes) (at : ReportText) (p e : Progress) → acts_ended at p ≡ Ok e → HasEnded sizes p e
 acts_back sizes at p e is =
     let count = length (clock_of p.queues).items in
     let checked : Progress → Judged = λ f. unreadable_if (not (list_all is_used_up f.queues)) at >>= (λ (_ : Unit {0}). Ok f) in
@@ -234,11 +234,11 @@ acts_back sizes at p e is =
       back = λ text. (filled_back sizes at count p f text parts.1 (omega arith)).1;
     })
 
-no_more : {A : Type 0} (xs : List A) → not (length xs == 0) ≡ false → xs ≡ []
+pub no_more : {A : Type 0} (xs : List A) → not (length xs == 0) ≡ false → xs ≡ []
 no_more [] is = refl
 no_more (x ∷ xs) is = absurd (grind (arith, nat_tests))
 
-round_back : (sizes : Sizes) (at : ReportText) (p e : Progress) → round_ended at p ≡ Ok e → HasEnded sizes p e × (e.shown ≡ [])
+pub round_back : (sizes : Sizes) (at : ReportText) (p e : Progress) → round_ended at p ≡ Ok e → HasEnded sizes p e × (e.shown ≡ [])
 round_back sizes at p e is =
     let checked : Progress → Judged = λ f. unreadable_if (not (length f.shown == 0)) at >>= (λ (_ : Unit {0}). Ok f) in
     let parts = then_ok (acts_ended at p) checked e is in
@@ -297,7 +297,7 @@ opened_back sizes at (kind ∷ kinds) e q rest is next closed used r =
     let left = subst (λ (x : Progress). IsRest sizes x rest) (sym (same_ok opened q named.1)) r in
     subst (λ (l : List ℕ). IsRest sizes e (l ++ 10 ∷ rest)) (sym (same_text at.text (shown_name kind) named.0)) (rest_listing sizes e kind kinds rest closed used next left)
 
-listing_back : (sizes : Sizes) (at : ReportText) (p q : Progress) (rest : List ℕ) → listing_judged at p ≡ Ok q → p.due ≡ [] → IsRest sizes q rest → IsRest sizes p (at.text ++ 10 ∷ rest)
+pub listing_back : (sizes : Sizes) (at : ReportText) (p q : Progress) (rest : List ℕ) → listing_judged at p ≡ Ok q → p.due ≡ [] → IsRest sizes q rest → IsRest sizes p (at.text ++ 10 ∷ rest)
 listing_back sizes at p q rest is closed r =
     let parts = then_ok (acts_ended at p) (λ (e : Progress). listing_opened at e.shown e) q is in
     let e = parts.0 in

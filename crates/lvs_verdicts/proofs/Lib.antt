@@ -1,3 +1,6 @@
 pub mod Walks
 pub mod Silent
 pub mod Backward
+pub mod Refusing
+pub mod Heads
+pub mod LegalReports

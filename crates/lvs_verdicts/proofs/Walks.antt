@@ -176,3 +176,8 @@ walk_of queues (act ∷ acts) s left all replies =
     let later = run (step s act.item).1 (items_of acts) in
     let both = first_reply (step s act.item).0 act.reply later.0 (replies_of acts) later.1 left replies in
     (t.items, t.at, both.0, walk_of (set queues act.actor (queue_at (act.number + 1) t.items)) acts (step s act.item).1 left (later_taken queues act acts t all) both.1)
+
+-- without a list there is no act
+pub nothing_taken : (s : State) (acts : List Noted) (left : State) → UsesUp [] s acts left → (acts ≡ []) × (s ≡ left)
+nothing_taken s [] left walk = (refl, walk.1)
+nothing_taken s (act ∷ acts) left walk = let at = walk.1 in absurd cc
