@@ -4,3 +4,4 @@ pub mod Backward
 pub mod Refusing
 pub mod Heads
 pub mod LegalReports
+pub mod Printed
