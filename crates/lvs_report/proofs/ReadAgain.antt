@@ -38,7 +38,7 @@ split_by : (b : ℕ) (feeds : Bool) (line : List ℕ) (pieces rest : List (List 
 split_by b true line pieces rest other is = absurd cc
 split_by b false line pieces rest other is = ap (onto_first b) is
 
-split_line : (text rest : List ℕ) → avoids 10 text ≡ true → slice_split is_feed (text ++ 10 ∷ rest) ≡ text ∷ slice_split is_feed rest
+pub split_line : (text rest : List ℕ) → avoids 10 text ≡ true → slice_split is_feed (text ++ 10 ∷ rest) ≡ text ∷ slice_split is_feed rest
 split_line [] rest well = refl
 split_line (b ∷ text) rest well =
     split_by b (is_feed b) text (slice_split is_feed (text ++ 10 ∷ rest)) (slice_split is_feed rest) (first_of_and _ _ well) (split_line text rest (rest_of_and _ _ well))
@@ -61,7 +61,7 @@ abbrev chain : List (List ℕ) → List ℕ → List ℕ
 chain [] last = last
 chain (piece ∷ pieces) last = piece ++ chain pieces last
 
-unglue : (prefix : List ℕ) (pieces : List (List ℕ)) (rest : List ℕ) → glue prefix pieces ++ rest ≡ prefix ++ chain pieces rest
+pub unglue : (prefix : List ℕ) (pieces : List (List ℕ)) (rest : List ℕ) → glue prefix pieces ++ rest ≡ prefix ++ chain pieces rest
 unglue prefix [] rest = refl
 unglue prefix (piece ∷ pieces) rest = unglue (prefix ++ piece) pieces rest ∙ append_assoc prefix piece (chain pieces rest)
 
@@ -83,12 +83,12 @@ head_pieces book = decimal book.number ∷ codes " at " ∷ decimal book.moment 
 abbrev head_front : RoundBook → List ℕ
 head_front book = head_line book.number book.moment book.workers book.buckets
 
-head_is : (book : RoundBook) (rest : List ℕ) → head_text book ++ rest ≡ head_front book ++ 10 ∷ rest
+pub head_is : (book : RoundBook) (rest : List ℕ) → head_text book ++ rest ≡ head_front book ++ 10 ∷ rest
 head_is book rest =
     unglue (codes "round ") (decimal book.number ∷ codes " at " ∷ decimal book.moment ∷ codes " workers " ∷ decimal book.workers ∷ codes " buckets " ∷ decimal book.buckets ∷ feed ∷ []) rest
     ∙ ap (λ (l : List ℕ). codes "round " ++ l) (chain_append (head_pieces book) (decimal book.buckets) (10 ∷ rest))
 
-head_avoids : (book : RoundBook) → avoids 10 (head_front book) ≡ true
+pub head_avoids : (book : RoundBook) → avoids 10 (head_front book) ≡ true
 head_avoids book =
     let number : (n : ℕ) → avoids 10 (decimal n) ≡ true = λ n. decimal_avoids 10 n (lit< tt) in
     both 10 (decimal book.number) _ (number book.number) (both 10 (decimal book.moment) _ (number book.moment) (both 10 (decimal book.workers) _ (number book.workers) (number book.buckets)))
@@ -105,12 +105,12 @@ reads_head book rest lines again later = λ number.
 abbrev body_of : ℕ → Noted → List ℕ
 body_of place act = act_body place act.actor act.number (reply_text act.reply)
 
-act_is : (place : ℕ) (act : Noted) (rest : List ℕ) → act_line place act ++ rest ≡ body_of place act ++ 10 ∷ rest
+pub act_is : (place : ℕ) (act : Noted) (rest : List ℕ) → act_line place act ++ rest ≡ body_of place act ++ 10 ∷ rest
 act_is place act rest =
     unglue (decimal place) (blank ∷ decimal act.actor ∷ (46 ∷ []) ∷ decimal act.number ∷ blank ∷ reply_text act.reply ∷ feed ∷ []) rest
     ∙ chain_append (decimal place ∷ blank ∷ decimal act.actor ∷ (46 ∷ []) ∷ decimal act.number ∷ blank ∷ []) (reply_text act.reply) (10 ∷ rest)
 
-act_avoids : (place : ℕ) (act : Noted) → avoids 10 (body_of place act) ≡ true
+pub act_avoids : (place : ℕ) (act : Noted) → avoids 10 (body_of place act) ≡ true
 act_avoids place act =
     let number : (n : ℕ) → avoids 10 (decimal n) ≡ true = λ n. decimal_avoids 10 n (lit< tt) in
     both 10 (decimal place) _ (number place) (both 10 (decimal act.actor) _ (number act.actor) (both 10 (decimal act.number) _ (number act.number) (reply_avoids act.reply)))
@@ -146,7 +146,7 @@ pieces_by : (b : ℕ) (feeds : Bool) (pieces : List (List ℕ)) → feeds ≡ is
 pieces_by b true pieces is all = (refl, all)
 pieces_by b false pieces is all = onto_first_avoids b pieces (ap not (sym is)) all
 
-pieces_avoid : (text : List ℕ) → Lines (slice_split is_feed text)
+pub pieces_avoid : (text : List ℕ) → Lines (slice_split is_feed text)
 pieces_avoid [] = (refl, tt)
 pieces_avoid (b ∷ text) = pieces_by b (is_feed b) (slice_split is_feed text) refl (pieces_avoid text)
 
@@ -183,7 +183,7 @@ listing_lines (text ∷ next ∷ more) number kind before rest lines all whole l
     ∙ ap (λ (text : List ℕ). found (line.Shown (open_with kind text) ∷ lines)) same
 
 -- the first line of a listing
-first_line : (kind : Shown) → is_named kind ≡ true → (avoids 10 (shown_name kind) ≡ true) × (report_line_read None (shown_name kind) ≡ Some (record { whole = []; open_listing = Some (open_with kind []) }))
+pub first_line : (kind : Shown) → is_named kind ≡ true → (avoids 10 (shown_name kind) ≡ true) × (report_line_read None (shown_name kind) ≡ Some (record { whole = []; open_listing = Some (open_with kind []) }))
 first_line shown.List named = (refl, refl)
 first_line shown.Conns named = (refl, refl)
 first_line shown.Save named = (refl, refl)
