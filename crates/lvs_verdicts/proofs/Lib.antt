@@ -5,3 +5,4 @@ pub mod Refusing
 pub mod Heads
 pub mod LegalReports
 pub mod Printed
+pub mod Passing
