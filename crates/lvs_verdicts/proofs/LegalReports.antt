@@ -41,7 +41,7 @@ line_back sizes at (expected ∷ later) p q rest is due_is r =
 
 -- A REPORT
 
-gone_on : (r : Judged) (rest : Progress → Verdict) → Refuses r → go_on r rest ≡ verdict.Legal → (p : Progress) × (r ≡ Ok p) × (rest p ≡ verdict.Legal)
+pub gone_on : (r : Judged) (rest : Progress → Verdict) → Refuses r → go_on r rest ≡ verdict.Legal → (p : Progress) × (r ≡ Ok p) × (rest p ≡ verdict.Legal)
 gone_on (Ok p) rest never is = (p, refl, is)
 gone_on (Err verdict.Legal) rest never is = absurd never
 gone_on (Err (verdict.Illegal number expected found)) rest never is = absurd cc

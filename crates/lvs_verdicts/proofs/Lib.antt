@@ -6,3 +6,4 @@ pub mod Heads
 pub mod LegalReports
 pub mod Printed
 pub mod Passing
+pub mod Skipping
