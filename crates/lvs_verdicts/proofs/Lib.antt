@@ -7,3 +7,5 @@ pub mod LegalReports
 pub mod Printed
 pub mod Passing
 pub mod Skipping
+pub mod Bounds
+pub mod Onward
