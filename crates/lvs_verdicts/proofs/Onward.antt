@@ -256,3 +256,53 @@ first_piece : (script : Script) (sizes : Sizes) (text rest : List ℕ) → avoid
 first_piece script sizes text rest well same goes =
     ap (pieces_judged script) (split_line text rest well)
     ∙ judged_with script sizes text (slice_split is_feed rest) same (ap (judged_from sizes 1 (nothing_judged script sizes)) (sym (split_line text rest well)) ∙ goes 1)
+
+-- a book's text begins with its head
+book_front : (book : RoundBook) (rest : List ℕ) → round_text book ++ rest ≡ head_line book.number book.moment book.workers book.buckets ++ 10 ∷ (acts_text 0 book.acts ++ (listings_text book.shown ++ rest))
+book_front book rest =
+    append_assoc (head_text book ++ acts_text 0 book.acts) (listings_text book.shown) rest
+    ∙ append_assoc (head_text book) (acts_text 0 book.acts) (listings_text book.shown ++ rest)
+    ∙ head_is book (acts_text 0 book.acts ++ (listings_text book.shown ++ rest))
+
+-- where there is a round, the first line says the workers and buckets
+front_legal : (script : Script) (workers buckets : ℕ) (s left : State) (round : Round) (book : RoundBook) (rest : List ℕ) → are_sizes workers buckets ≡ true → round.moment < 2 ^ 64 → workers < 2 ^ 32 → buckets < 2 ^ 32 → book.number ≡ 0 → IsLegal s (plan round workers buckets) book left
+    → Goes (record { workers = workers; buckets = buckets }) (nothing_judged script (record { workers = workers; buckets = buckets })) (round_text book ++ rest) → judgement script (round_text book ++ rest) ≡ verdict.Legal
+front_legal script workers buckets s left round book rest good moments few_workers few_buckets numbered legal goes =
+    let sizes : Sizes = record { workers = workers; buckets = buckets } in
+    let text = head_line 0 round.moment workers buckets in
+    let behind = acts_text 0 book.acts ++ (listings_text book.shown ++ rest) in
+    let first : RoundBook = record { number = 0; moment = round.moment; workers = workers; buckets = buckets; acts = []; shown = [] } in
+    let read = head_line_own 0 round.moment workers buckets (omega arith) moments few_workers few_buckets in
+    let same : round_text book ++ rest ≡ text ++ 10 ∷ behind = book_front book rest ∙ ap (λ (l : List ℕ). l ++ 10 ∷ behind) (head_same s left 0 round sizes book numbered legal) in
+    ap (judgement script) same ∙ first_piece script sizes text behind (head_avoids first) (sizes_by workers buckets 0 round.moment text read good) (subst (Goes sizes (nothing_judged script sizes)) same goes)
+
+begun_between : (script : Script) (sizes : Sizes) → IsBetween (nothing_judged script sizes) (initial script.local sizes.buckets) script.rounds 0
+begun_between script sizes = record { used = refl; due = refl; shown = refl; state = refl; rounds_left = refl; numbered = refl }
+
+script_said : (script : Script) (sizes : Sizes) → sizes.workers ≤ 16 → sizes.buckets ≤ 256 → IsWithinLimits script.rounds → AreNamed script.rounds → AreSaid sizes 0 script.rounds
+script_said script sizes workers buckets within named = record {
+  numbers = omega (arith, within.few);
+  moments = within.moments;
+  items = within.items;
+  named = named;
+  few_workers = workers;
+  few_buckets = buckets;
+}
+
+books_legal : (script : Script) (workers buckets : ℕ) (rounds : List Round) (books : List RoundBook) → 1 ≤ workers → workers ≤ 16 → 1 ≤ buckets → buckets ≤ 256 → script.rounds ≡ rounds → IsWithinLimits script.rounds → AreNamed script.rounds → AreLegalBooks workers buckets 0 (initial script.local buckets) rounds books → length books ≡ length rounds → judgement script (books_text books) ≡ verdict.Legal
+books_legal script workers buckets [] [] some_workers few_workers some_buckets few_buckets is within named legal each =
+    let one : Sizes = record { workers = 1; buckets = 1 } in
+    goes_books one script.rounds [] (nothing_judged script one) (initial script.local 1) 0 (begun_between script one) (script_said script one (omega arith) (omega arith) within named) tt (ap length (sym is)) 1
+books_legal script workers buckets (round ∷ rounds) [] some_workers few_workers some_buckets few_buckets is within named legal each = absurd (omega (arith, each))
+books_legal script workers buckets [] (book ∷ books) some_workers few_workers some_buckets few_buckets is within named legal each = absurd legal
+books_legal script workers buckets (round ∷ rounds) (book ∷ books) some_workers few_workers some_buckets few_buckets is within named legal each =
+    let sizes : Sizes = record { workers = workers; buckets = buckets } in
+    let s = initial script.local buckets in
+    let good : are_sizes workers buckets ≡ true = grind (arith, nat_tests) in
+    let moments : AreMoments (round ∷ rounds) = subst AreMoments is within.moments in
+    let goes = goes_books sizes script.rounds (book ∷ books) (nothing_judged script sizes) s 0 (begun_between script sizes) (script_said script sizes few_workers few_buckets within named) (subst (λ (all : List Round). AreLegalBooks workers buckets 0 s all (book ∷ books)) (sym is) legal) (each ∙ ap length (sym is)) in
+    front_legal script workers buckets (at_moment s round.moment) legal.0 round book (books_text books) good (omega (arith, moments.0)) (omega (arith, few_workers)) (omega (arith, few_buckets)) legal.1 legal.2 goes
+
+pub texts_legal : (script : Script) (report : List ℕ) → IsWithinLimits script.rounds → AreNamed script.rounds → IsTextOfLegalBooks script report → judgement script report ≡ verdict.Legal
+texts_legal script report within named t =
+    ap (judgement script) t.text ∙ books_legal script t.workers t.buckets script.rounds t.books t.some_workers t.few_workers t.some_buckets t.few_buckets refl within named t.legal t.each_round
