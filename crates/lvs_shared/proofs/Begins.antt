@@ -11,7 +11,7 @@ use Rattle.lvs_core.specs.Seen.{CoreSeen}
 use Rattle.lvs_shared.specs.declared.origin.Act.{Act}
 use Rattle.lvs_shared.specs.declared.origin.Opened.{Opened}
 use Rattle.lvs_shared.specs.Openings.{begun, IsOpened}
-use Rattle.lvs_shared.specs.Acts.{notes_of, left}
+use Rattle.lvs_shared.specs.Acts.{acts_of, left}
 use Rattle.lvs_shared.specs.Played.{Kept, PlayedSeen, IsPlayed, IsLeft}
 
 -- no acts
@@ -29,11 +29,10 @@ kept_none o opened = record {
 }
 
 pub played_none : (o : Opened) (b : BoardSeen) → IsOpened o → StandsFor b (begun o) → b.book ≡ [] → b.steps ≡ o.core.steps → IsPlayed o b []
-played_none o b opened stands book steps =
-    rw book (record {
-      opened = opened;
-      kept = kept_none o opened;
-      stands = stands;
-      steps = let e : b.steps ≡ o.core.steps + 0 = omega (arith, steps) in e;
-      each = refl;
-    })
+played_none o b opened stands book steps = record {
+  opened = opened;
+  kept = subst (λ (l : List Noted). Kept o (acts_of (begun o).buckets l [])) (sym book) (kept_none o opened);
+  stands = subst (λ (l : List Noted). StandsFor b (left o (acts_of (begun o).buckets l []))) (sym book) stands;
+  steps = let e = ap length book in omega (arith, steps, e);
+  each = sym (ap length book);
+}

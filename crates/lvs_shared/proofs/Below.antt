@@ -41,7 +41,7 @@ record_below n None some = tt
 record_below n (Some key) some = hashed n key.proto key.caddr key.cport some
 
 swept_below : (b n : ℕ) (c : Bool) → nat_lt b n ≡ c → IsBelow (cond c (Some b) None) n
-swept_below b n true is = omega (arith, nat_tests, is)
+swept_below b n true is = grind (arith, nat_tests, is)
 swept_below b n false is = tt
 
 pub home_below : (n : ℕ) (i : Item) → 0 < n → IsBelow (home n i) n

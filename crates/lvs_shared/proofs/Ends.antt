@@ -142,7 +142,7 @@ replies_notes (a ∷ h) = ap (λ (l : List Reply). a.noted.reply ∷ l) (replies
 
 module _ (o : Opened) (h : List Act) (kept : Kept o h) where
   some : 0 < (begun o).buckets
-  some = rw kept.buckets kept.counted.numbers.buckets
+  some = subst (λ (n : ℕ). 0 < n) kept.buckets kept.counted.numbers.buckets
 
   actors_of : (k : ℕ) (l : List Item) → slice_get o.plan.lists k ≡ Some l → books.AreFrom 0 l (books.acts_of k (notes_of h))
   actors_of k l is = let r = list_some o.plan.lists k l is in
@@ -218,7 +218,7 @@ module _ (o : Opened) (z : TableId) (p : PlayedSeen) (b : BoardSeen) (bs : List 
   })
 
   pub closed_sound : (book : RoundBook) → book.acts ≡ b.book → book.moment ≡ (begun o).now → book.buckets ≡ (begun o).buckets → book.workers + 3 ≡ length ss → books.IsSound (begun o) o.plan book (left o p.acts)
-  closed_sound book acts moment buckets workers = sound_of o p.acts kept book (acts ∙ sym is.book) (moment ∙ opened.moment) (buckets ∙ opened.buckets) (workers ∙ seats_count 0 (length o.plan.lists) ss order)
+  closed_sound book acts moment buckets workers = sound_of o p.acts kept book (acts ∙ sym is.book) (moment ∙ opened.moment) (buckets ∙ opened.buckets) (let e = seats_count 0 (length o.plan.lists) ss order in omega (arith, workers, e))
 
   pub closed_counts : HaveNumbers b.book ss
   closed_counts = subst (λ (acts : List Noted). HaveNumbers acts ss) is.book (counts_of o p.acts kept z 0 ss seated (tells_last o p.acts ps (passes_in ss) tells))

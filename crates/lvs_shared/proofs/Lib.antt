@@ -3,6 +3,7 @@ pub mod Histories
 pub mod Below
 pub mod Counts
 pub mod Playing
+pub mod Working
 pub mod Homes
 pub mod Seating
 pub mod Begins

@@ -58,7 +58,24 @@ module _ (o : Opened) (b : BoardSeen) (cs : List Change) (next : Placed) (f : Fo
   pub is_found : f ≡ look_up (left o h) next.item
   is_found = asks.found ∙ found_is (home (begun o).buckets next.item) is_below ∙ ap (λ (n : ℕ). look_at (left o h) next.item (home n next.item)) (sym is.kept.buckets)
 
-  module _ (b' : BoardSeen) (cs' : List Change) (c : Change) (stands : StandsFor b' (step (left o h) next.item).1) (book : b'.book ≡ b.book ++ noted next.actor next.number next.item (step (left o h) next.item).0 ∷ []) (carries : Carries (left o h) next.item c) (steps : b'.steps ≡ b.steps + 1) (pushed : cs' ≡ cs ++ c ∷ []) where
+  -- the state that the board takes the item in
+  module _ (w : State) (whole : w ≡ left o h) where
+    pub counted_at : IsCounted b.steps w
+    counted_at = subst (IsCounted b.steps) (sym whole) is_counted
+
+    pub found_in : f ≡ look_up w next.item
+    found_in = is_found ∙ ap (λ (s : State). look_up s next.item) (sym whole)
+
+  module _ (w : State) (whole : w ≡ left o h) (b' : BoardSeen) (cs' : List Change) (c : Change) (stands_in : StandsFor b' (step w next.item).1) (book_in : b'.book ≡ b.book ++ noted next.actor next.number next.item (step w next.item).0 ∷ []) (carries_in : Carries w next.item c) (steps : b'.steps ≡ b.steps + 1) (pushed : cs' ≡ cs ++ c ∷ []) where
+    stands : StandsFor b' (step (left o h) next.item).1
+    stands = subst (λ (s : State). StandsFor b' (step s next.item).1) whole stands_in
+
+    book : b'.book ≡ b.book ++ noted next.actor next.number next.item (step (left o h) next.item).0 ∷ []
+    book = book_in ∙ ap (λ (s : State). b.book ++ noted next.actor next.number next.item (step s next.item).0 ∷ []) whole
+
+    carries : Carries (left o h) next.item c
+    carries = subst (λ (s : State). Carries s next.item c) whole carries_in
+
     abbrev new : Act
     new = act_of (begun o).buckets (noted next.actor next.number next.item (step (left o h) next.item).0) c
 

@@ -1,7 +1,8 @@
 -- A round that is opened, and one that is closed.
 use Rattle.std.specs.Prelude.{◌≡◌, ℕ, suc, ◌+◌, List, [], ◌∷◌, length}
 use Rattle.atomic_table.specs.Seated.{TableId}
-use Rattle.lvs_book.specs.Passes.{Held, BookIs, opened}
+use Rattle.lvs_book.specs.Passes.{Held, BookIs}
+use Rattle.lvs_book.specs.Passes as passes
 use Rattle.lvs_types.specs.declared.item.Item.{Item}
 use Rattle.lvs_types.specs.declared.book.Noted.{Noted}
 use Rattle.lvs_model.specs.Books.{acts_of}
@@ -22,24 +23,24 @@ pub record DirectorSeen : Type 0 where
   pub number : ℕ
 
 -- a book that was opened and not used: a pass for each bucket and each actor, with the core's buckets and the plan's lists
-pub record IsOpening (book : BookIs Opened) (moment : ℕ) (passes : List (Held Opened Act)) (buckets : List BucketSeen) (lists : List (List Item)) : Type 0 where
+pub record IsOpening (book : BookIs Opened) (now : ℕ) (dealt : List (Held Opened Act)) (parts : List BucketSeen) (items : List (List Item)) : Type 0 where
   pub opened : IsOpened book.origin
-  pub moment : moment ≡ (begun book.origin).now
+  pub moment : now ≡ (begun book.origin).now
   pub lanes : book.lanes ≡ (begun book.origin).buckets + length book.origin.plan.lists
-  pub passes : passes ≡ opened book.id book.origin 0 ((begun book.origin).buckets + length book.origin.plan.lists)
-  pub count : length buckets ≡ (begun book.origin).buckets
-  pub buckets : AreBuckets (begun book.origin) 0 buckets
-  pub lists : lists ≡ book.origin.plan.lists
+  pub passes : dealt ≡ passes.opened book.id book.origin 0 ((begun book.origin).buckets + length book.origin.plan.lists)
+  pub count : length parts ≡ (begun book.origin).buckets
+  pub buckets : AreBuckets (begun book.origin) 0 parts
+  pub lists : items ≡ book.origin.plan.lists
 
 -- what a director has, of the book that the round names
-pub record IsDirector (named book : BookIs Opened) (moment locks : ℕ) : Type 0 where
+pub record IsDirector (named book : BookIs Opened) (now count : ℕ) : Type 0 where
   pub opened : IsOpened named.origin
   pub id : book.id ≡ named.id
   pub origin : book.origin ≡ named.origin
   pub lanes : book.lanes ≡ (begun named.origin).buckets + length named.origin.plan.lists
-  pub moment : moment ≡ (begun named.origin).now
+  pub moment : now ≡ (begun named.origin).now
   -- a lock for each bucket
-  pub locks : locks ≡ (begun named.origin).buckets
+  pub locks : count ≡ (begun named.origin).buckets
 
 -- THE END
 

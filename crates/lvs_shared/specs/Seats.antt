@@ -18,9 +18,9 @@ pub record SeatSeen : Type 0 where
   pub pass : Held Opened Act
 
 -- a seat of the book: its acts are as many as the items of its actor's list that are done, and the others are left
-pub record IsSeat (book : TableId) (o : Opened) (s : SeatSeen) : Type 0 where
+pub record IsSeat (named : TableId) (o : Opened) (s : SeatSeen) : Type 0 where
   pub opened : IsOpened o
-  pub book : s.pass.book ≡ book
+  pub book : s.pass.book ≡ named
   pub origin : s.pass.origin ≡ o
   pub lane : s.pass.lane ≡ (begun o).buckets + s.actor
   pub actor : s.actor < length o.plan.lists

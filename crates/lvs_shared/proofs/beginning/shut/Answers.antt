@@ -3,7 +3,7 @@ use Rattle.lvs_book.specs.Passes.{Held}
 use Rattle.lvs_shared.specs.declared.origin.Act.{Act}
 use Rattle.lvs_shared.specs.declared.origin.Opened.{Opened}
 use Rattle.lvs_shared.specs.Openings.{begun}
-use Rattle.lvs_shared.proofs.Dealing.{last_pass, is_new_home, buckets_cut, cut_length}
+use Rattle.lvs_shared.proofs.Dealing.{last_pass, none_left, is_new_home, buckets_cut, cut_length}
 use Rattle.lvs_shared.proofs.beginning.shut.Goals as goal
 
 pub new-requires-clause-book : goal.new-requires-clause-book
@@ -30,3 +30,7 @@ loop-bucket-preserved g c = let o = g.N.RoundName.book.origin in let z = g.N.Rou
       len = search rules;
       room = search rules;
     }
+
+pub unreachable-requires : goal.unreachable-requires
+unreachable-requires g c = let o = g.N.RoundName.book.origin in let ms = c.pop.new.self.items in
+    none_left g.N.RoundName.book.id o (length c.loop-bucket.buckets.items) (length ms) c.loop-bucket.passes.items c.loop-bucket.invariant.passes (search rules) (cut_length c.loop-bucket.buckets.items ms c.in-Some.bucket c.in-Some.ensures.items)
