@@ -14,6 +14,7 @@ use lvs_bucket::Bucket;
 use lvs_core::Core;
 use lvs_types::{Listed, NoMemory, RoundBook};
 use std::alloc::Global;
+use std::marker::PhantomData;
 use std::sync::Mutex;
 
 /// How many actors aren't workers: the clock, control and sync.
@@ -93,6 +94,28 @@ fn passes_of<N: RoundName>(seats: Vec<Seat<N>>, passes: &mut Vec<Pass<Played>>)
     }
 }
 
+/// Room for what the locks and the seats give back.
+#[derive(Drop)]
+struct Room<N: RoundName> {
+    chambers: Vec<Chamber<N>>,
+    buckets: Vec<Bucket>,
+    passes: Vec<Pass<Played>>,
+}
+
+/// All memory that an end takes, for so many locks and seats.
+fn make_room<N: RoundName>(alloc: Global, locks: usize, seats: usize) -> Result<Room<N>, NoMemory>
+    requires { (locks ≤ 256) × (seats ≤ 65536) }
+    ensures chambers { IfOk result (λ r. (vec_len r.chambers ≡ 0) × (locks ≤ vec_capacity r.chambers)) }
+    ensures buckets { IfOk result (λ r. (r.buckets.items ≡ []) × (vec_len r.buckets ≡ 0) × (locks ≤ vec_capacity r.buckets)) }
+    ensures passes { IfOk result (λ r. (r.passes.items ≡ []) × (vec_len r.passes ≡ 0) × (locks + seats ≤ vec_capacity r.passes)) }
+{
+    Ok(Room {
+        chambers: Vec::with_capacity(alloc, locks)?,
+        buckets: Vec::with_capacity(alloc, locks)?,
+        passes: Vec::with_capacity(alloc, locks + seats)?,
+    })
+}
+
 impl<N: RoundName> Director<N> {
     /// Takes all seats, in order of their actors, and gives the core and the book. The book holds what
     /// the seats made, without listings, and is sound: the core is the state that it leaves. All memory
@@ -111,33 +134,38 @@ impl<N: RoundName> Director<N> {
         ensures shown { IfOk result (λ r. r.1.shown ≡ []) }
         ensures err { IfErr result (λ e. (e.0 ≡ self) × (e.1 ≡ seats)) }
     {
-        let mut director = self;
-        let buckets = director.locks.len();
-        let workers = seats.len() - OTHERS;
-        let Ok(chambers) = Vec::with_capacity(alloc, buckets) else {
-            return Err((director, seats, NoMemory));
+        let count = self.locks.len();
+        let Ok(room) = make_room(alloc, count, seats.len()) else {
+            return Err((self, seats, NoMemory));
         };
-        let Ok(room) = Vec::with_capacity(alloc, buckets) else {
-            return Err((director, seats, NoMemory));
-        };
-        let Ok(mut passes) = Vec::with_capacity(alloc, buckets + seats.len()) else {
-            return Err((director, seats, NoMemory));
-        };
-        let chambers = unlocked(&mut director.locks, chambers);
-        // No proof can say that the locks stand in order, as they do.
-        if !are_in_order(&chambers) {
-            locked(chambers, &mut director.locks);
-            return Err((director, seats, NoMemory));
-        }
-        let parts = parts_of(chambers, room, &mut passes);
-        passes_of(seats, &mut passes);
         let Director {
             number,
             moment,
             book,
-            locks: _,
+            mut locks,
             of: _,
-        } = director;
+        } = self;
+        let Room {
+            chambers,
+            buckets,
+            mut passes,
+        } = room;
+        let chambers = unlocked(&mut locks, chambers);
+        // No proof can say that the locks stand in order, as they do.
+        if !are_in_order(&chambers) {
+            locked(chambers, &mut locks);
+            let director = Director {
+                number,
+                moment,
+                book,
+                locks,
+                of: PhantomData,
+            };
+            return Err((director, seats, NoMemory));
+        }
+        let workers = seats.len() - OTHERS;
+        let buckets = parts_of(chambers, buckets, &mut passes);
+        passes_of(seats, &mut passes);
         match book.close(passes) {
             Ok(played) => {
                 let mut board = played.into_board();
@@ -146,11 +174,11 @@ impl<N: RoundName> Director<N> {
                     number,
                     moment,
                     workers: workers as u32,
-                    buckets: buckets as u32,
+                    buckets: count as u32,
                     acts: Listed::from_vec(acts),
                     shown: Listed::from_vec(Vec::new(alloc)),
                 };
-                Ok((Core::from_parts(board, parts), book))
+                Ok((Core::from_parts(board, buckets), book))
             }
             Err(_) => unreachable!(),
         }
