@@ -9,3 +9,4 @@ pub mod Seating
 pub mod Begins
 pub mod Dealing
 pub mod Ends
+pub mod Crossings

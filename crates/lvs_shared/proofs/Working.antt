@@ -1,5 +1,5 @@
 -- A work may play its item, and what is then said of it.
-use Rattle.std.proofs.Common.{◌≡◌, ℕ, ◌+◌, ◌<◌, List, [], ◌∷◌, ◌++◌, length, refl, sym, ap, ◌∙◌, subst, arith, cond, eqb, eq-eqb, ne_eqb, Option, Some, None}
+use Rattle.std.proofs.Common.{◌≡◌, ℕ, ◌+◌, ◌<◌, List, [], ◌∷◌, ◌++◌, length, refl, sym, ap, ◌∙◌, subst, arith, cond, eqb, eq-eqb, ne_eqb, Option, Some, None, IfSome}
 use mathlib.Core.Bool.{Bool, true, false, ◌||◌}
 use mathlib.Core.Logic.{dite}
 use native.Mathlib.Decide.{ℕ_discrete}
@@ -64,11 +64,18 @@ module _ (p : PlayedSeen) (w : PairedSeen) (placed : Placed) (apart : w.home.lan
       ∙ ap (λ (m : Option ℕ). lanes_at (begun w.own.origin).buckets placed.actor m) is.bucket
       ∙ ap (λ (j : ℕ). w.home.lane ∷ j ∷ []) (sym is.own.lane))
 
-  pub paired_fits : (c : Change) → FitsFor p.origin placed.item c p.acts → Fits c (made w.home.lane w.own.origin w.home.acts)
+  paired_fits : (c : Change) → FitsFor p.origin placed.item c p.acts → Fits c (made w.home.lane w.own.origin w.home.acts)
   paired_fits c fits =
       let at : FitsFor w.own.origin placed.item c p.acts = subst (λ (q : Opened). FitsFor q placed.item c p.acts) origin fits in
       let homed : FitsAt w.own.origin c p.acts (Some w.home.lane) = subst (FitsAt w.own.origin c p.acts) is.bucket at in
       subst (λ (l : List Act). Fits c (made w.home.lane w.own.origin l)) at_home homed
 
-  pub paired_notes : (a : Act) → Notes p.origin placed a → Notes w.own.origin placed a
+  paired_notes : (a : Act) → Notes p.origin placed a → Notes w.own.origin placed a
   paired_notes a notes = subst (λ (q : Opened). Notes q placed a) origin notes
+
+  pub paired_first : (a : Act) (c : Change) → w.placed ≡ Some placed → Notes p.origin placed a → a.change ≡ c → FitsFor p.origin placed.item c p.acts → PairedFirst w a c
+  paired_first a c there notes answered fits = record {
+    notes = subst (λ (m : Option Placed). IfSome m (λ (at : Placed). Notes w.own.origin at a)) (sym there) (paired_notes a notes);
+    answered = answered;
+    fits = paired_fits c fits;
+  }
