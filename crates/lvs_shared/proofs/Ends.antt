@@ -217,7 +217,7 @@ module _ (o : Opened) (z : TableId) (p : PlayedSeen) (b : BoardSeen) (bs : List 
     each = buckets_are z o p.acts 0 bs ps kept homes (tells_first o p.acts ps (passes_in ss) tells) (omega (arith, len));
   })
 
-  pub closed_sound : (book : RoundBook) → book.acts ≡ b.book → book.moment ≡ (begun o).now → book.buckets ≡ (begun o).buckets → book.workers + 3 ≡ length ss → books.IsSound (begun o) o.plan book (left o p.acts)
+  closed_sound : (book : RoundBook) → book.acts ≡ b.book → book.moment ≡ (begun o).now → book.buckets ≡ (begun o).buckets → book.workers + 3 ≡ length ss → books.IsSound (begun o) o.plan book (left o p.acts)
   closed_sound book acts moment buckets workers = sound_of o p.acts kept book (acts ∙ sym is.book) (moment ∙ opened.moment) (buckets ∙ opened.buckets) (let e = seats_count 0 (length o.plan.lists) ss order in omega (arith, workers, e))
 
   pub closed_counts : HaveNumbers b.book ss
@@ -228,3 +228,9 @@ module _ (o : Opened) (z : TableId) (p : PlayedSeen) (b : BoardSeen) (bs : List 
       ap (λ (xs : List Noted). length (books.acts_of k xs)) (acts ∙ sym is.book)
       ∙ whole_of o p.acts z 0 (length o.plan.lists) ss kept seated order (tells_last o p.acts ps (passes_in ss) tells) at_end k (omega arith) r.0
       ∙ ap length r.1
+
+  -- the same of the origin as the director tells it, and of the state of the core that is handed back
+  pub closed_sound_as : (q : Opened) (t : State) (book : RoundBook) → q ≡ o → t ≡ left o p.acts → book.acts ≡ b.book → book.moment ≡ (begun o).now → book.buckets ≡ (begun o).buckets → book.workers + 3 ≡ length ss → books.IsSound (begun q) q.plan book t
+  closed_sound_as q t book same there acts moment buckets workers =
+      subst (λ (r : Opened). books.IsSound (begun r) r.plan book t) (sym same)
+      (subst (books.IsSound (begun o) o.plan book) (sym there) (closed_sound book acts moment buckets workers))

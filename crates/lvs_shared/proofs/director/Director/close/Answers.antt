@@ -11,7 +11,7 @@ use Rattle.lvs_shared.specs.Openings.{begun}
 use Rattle.lvs_shared.specs.Acts.{left}
 use Rattle.lvs_shared.specs.Seats.{AreAtEnd, AreSeats, passes_in}
 use Rattle.lvs_shared.specs.Rounds.{DirectorSeen, HaveNumbers}
-use Rattle.lvs_shared.proofs.Ends.{names, are_all, seats_count, closed_agree, closed_steps, closed_sound, closed_counts, closed_whole}
+use Rattle.lvs_shared.proofs.Ends.{names, are_all, seats_count, closed_agree, closed_steps, closed_sound_as, closed_counts, closed_whole}
 use Rattle.lvs_shared.proofs.director.Director.close.Goals as goal
 
 pub close-requires : goal.close-requires
@@ -61,7 +61,8 @@ returns-clause-whole g c =
     let at : c.in-Ok-close.played.origin ≡ o = c.in-Ok-close.ensures.origin ∙ i.origin in
     let tells : Tells names o c.in-Ok-close.played.acts (c.parts_of-buckets.new.passes.items ++ passes_in c.args.seats.items) = subst (λ (l : List (Held Opened Act)). Tells names o c.in-Ok-close.played.acts l) c.passes_of.ensures.passes (subst (λ (q : Opened). Tells names q c.in-Ok-close.played.acts c.passes_of.new.passes.items) at c.in-Ok-close.ensures.lanes) in
     let e : c.from_vec.result ≡ c.into_board-board.result.book = c.from_vec.ensures ∙ c.take_acts-acts.ensures.acts in
-    subst (λ (q : Opened). AreAtEnd c.args.seats.items → IsWhole q.plan _) (sym origin) (closed_whole o z c.in-Ok-close.played c.into_board-board.result c.parts_of-buckets.result.items c.parts_of-buckets.new.passes.items c.args.seats.items at c.into_board-board.ensures c.parts_of-buckets.ensures.homes len c.passes_of.ensures.seated order tells _ e)
+    let book : RoundBook = record { number = c.self.inside.number; moment = c.self.inside.moment; workers = 0; buckets = 0; acts = c.from_vec.result; shown = [] } in
+    subst (λ (q : Opened). AreAtEnd c.args.seats.items → IsWhole q.plan book) (sym origin) (closed_whole o z c.in-Ok-close.played c.into_board-board.result c.parts_of-buckets.result.items c.parts_of-buckets.new.passes.items c.args.seats.items at c.into_board-board.ensures c.parts_of-buckets.ensures.homes len c.passes_of.ensures.seated order tells book e)
 
 pub returns-clause-sound : goal.returns-clause-sound
 returns-clause-sound g c =
@@ -76,9 +77,7 @@ returns-clause-sound g c =
     let same : c.from_parts.result.state ≡ left o c.in-Ok-close.played.acts = c.from_parts.ensures.state (left o c.in-Ok-close.played.acts) (closed_agree o z c.in-Ok-close.played c.into_board-board.result c.parts_of-buckets.result.items c.parts_of-buckets.new.passes.items c.args.seats.items at c.into_board-board.ensures c.parts_of-buckets.ensures.homes len c.passes_of.ensures.seated order tells c.take_acts-acts.new.self c.take_acts-acts.ensures.rest) in
     let seats = seats_count 0 (length o.plan.lists) c.args.seats.items order in
     let least = i.opened.some in
-    subst (λ (q : Opened). IsSound q.core.state q.plan _ c.from_parts.result.state) (sym origin)
-    (subst (λ (t : State). IsSound (begun o) o.plan _ t) (sym same)
-    (closed_sound o z c.in-Ok-close.played c.into_board-board.result c.parts_of-buckets.result.items c.parts_of-buckets.new.passes.items c.args.seats.items at c.into_board-board.ensures c.parts_of-buckets.ensures.homes len c.passes_of.ensures.seated order tells _ e i.moment (search (rules, i.locks)) (search (rules, arith, seats, least))))
+    closed_sound_as o z c.in-Ok-close.played c.into_board-board.result c.parts_of-buckets.result.items c.parts_of-buckets.new.passes.items c.args.seats.items at c.into_board-board.ensures c.parts_of-buckets.ensures.homes len c.passes_of.ensures.seated order tells c.args.self.origin c.from_parts.result.state _ origin same e i.moment (search (rules, i.locks)) (search (rules, arith, seats, least))
 
 pub overflow_sub-workers : goal.overflow_sub-workers
 overflow_sub-workers g c =
