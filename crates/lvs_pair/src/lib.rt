@@ -1,10 +1,13 @@
 //! A master, a backup and the takeover: messages go from one director to another through a relay.
 #![tactic(auto)]
 
+mod backup;
 mod begin;
 mod drained;
 mod ends;
 mod line;
+mod master;
+mod outbox;
 mod rule;
 
 pub use begin::relay;
