@@ -17,7 +17,6 @@ mod walk;
 mod words;
 
 pub use checking::check;
-pub use listing::listing_text;
 
 #[cfg(test)]
 mod tests;

@@ -15,10 +15,8 @@ const TEMPLATE: u32 = 0x1000;
 
 /// What the headers of an item's packet say, and the item's bucket: none where it has none.
 #[derive(Drop)]
-pub struct Home {
-    /// What the headers say, none where it is no packet or can't be read.
+pub(crate) struct Home {
     pub head: Option<Head>,
-    /// Its number.
     pub bucket: Option<u32>,
 }
 
@@ -123,7 +121,7 @@ fn find_swept(bucket: u32, buckets: u32) -> Option<u32>
 }
 
 /// What an item's headers say, and its bucket, of so many.
-pub fn place(item: &Item, buckets: u32) -> Home
+pub(crate) fn place(item: &Item, buckets: u32) -> Home
     requires { 0 < buckets }
     ensures head { result.head ≡ head_of_item item.now }
     ensures bucket { result.bucket ≡ home buckets item.now }

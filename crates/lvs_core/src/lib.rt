@@ -10,4 +10,3 @@ mod stepping;
 mod tests;
 
 pub use director::Core;
-pub use home::{Home, place};

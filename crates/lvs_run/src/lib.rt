@@ -17,9 +17,6 @@ mod round;
 mod rounds;
 mod serial;
 mod streams;
-mod threaded;
-mod threaded_commands;
-mod threaded_rounds;
 mod verdict;
 mod writing;
 
