@@ -37,15 +37,19 @@ impl Director {
         })
     }
 
-    /// Takes an item. Scripts name no item that the director can't take, and no script has so many
-    /// that it couldn't count them.
-    pub(crate) fn step(&mut self, alloc: Global, item: &Item) -> Result<Reply, NoMemory>
-        requires in_range { IsInRange item.now }
+    /// Takes an item, which comes back with its reply: no byte of it is copied. Scripts name no item
+    /// that the director can't take, and no script has so many that it couldn't count them.
+    pub(crate) fn step(&mut self, alloc: Global, item: Item) -> Result<(Item, Reply), NoMemory>
+        requires in_range { IsInRange item }
         requires young { self.old.steps < 2 ^ 62 }
-        ensures ok { IfOk result (λ reply. (reply, self.new.state) ≡ step self.old.state item.now) }
+        ensures ok { IfOk result (λ r. (r.1, self.new.state) ≡ step self.old.state item) }
+        ensures item { IfOk result (λ r. r.0 ≡ item) }
         ensures steps { OnOk result (self.new.steps ≡ self.old.steps + 1) }
     {
-        self.core.step(alloc, item)
+        match self.core.step_owned(alloc, item) {
+            Ok(answered) => Ok(answered),
+            Err((_, cause)) => Err(cause),
+        }
     }
 
     /// The listings of a round, of the director as it is now.

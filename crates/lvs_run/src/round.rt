@@ -31,7 +31,7 @@ fn play_items(
             item,
         } = placed;
         acts.reserve(1)?;
-        let reply = director.step(alloc, &item)?;
+        let (item, reply) = director.step(alloc, item)?;
         acts.push_reserved(Noted {
             actor,
             number,
@@ -54,7 +54,7 @@ pub(crate) fn play_round(
     ensures book { IfOk result (λ book. IsPlayed number round.now director.old.state book director.new.state) }
     ensures steps { OnOk result (director.new.steps ≡ director.old.steps + length (items_of_lines round.now) + 4) }
 {
-    director.step(alloc, &Item::Tick(round.moment))?;
+    director.step(alloc, Item::Tick(round.moment))?;
     let items = serial_items(alloc, round)?;
     let acts = play_items(alloc, director, items)?;
     Ok(RoundBook {
