@@ -1,7 +1,6 @@
 -- The listings of a script that was read have names: an ICMP error's bytes are some, and bytes.
-use Rattle.std.proofs.Common.{◌≡◌, ℕ, zero, suc, ◌+◌, ◌*◌, ◌<◌, ◌==◌, Bool, true, false, not, ◌&&◌, cond, List, [], ◌∷◌, ◌++◌, Option, Some, None, Result, Ok, Err, length, slice_index, refl, sym, ◌∙◌, ap, subst, nat_lt, nat_le, arith}
-use Rattle.std.specs.Prelude.{unwrap_or}
-use Rattle.std.specs.List.{list_all, filter_map, AllByRecursion}
+use Rattle.std.proofs.Common.{◌≡◌, ℕ, suc, ◌+◌, ◌*◌, ◌<◌, ◌==◌, Bool, true, false, not, cond, List, [], ◌∷◌, ◌++◌, Option, Some, None, Result, Ok, Err, length, refl, ◌∙◌, ap, subst, nat_le, arith}
+use Rattle.std.specs.List.{list_all, filter_map}
 use Rattle.std.proofs.lemmas.Bool.Decides.{nat_tests}
 use Rattle.std.proofs.lemmas.List.Elements.{filter_map-append}
 use Rattle.std.proofs.lemmas.List.Folds.{list_all-append}
@@ -20,7 +19,6 @@ use Rattle.lvs_types.specs.declared.command.Command.{Command}
 use Rattle.lvs_types.specs.declared.command.Command.TheVariants as command
 use Rattle.lvs_types.specs.declared.command.Line.{Line}
 use Rattle.lvs_types.specs.declared.command.Line.TheVariants.{Edit, Show}
-use Rattle.lvs_types.specs.declared.service.Service.{Service}
 use Rattle.lvs_types.specs.declared.service.ServiceKey.{ServiceKey}
 use Rattle.lvs_types.specs.declared.dest.DestSpec.{DestSpec}
 use Rattle.lvs_types.specs.declared.book.Shown.{Shown}
@@ -44,8 +42,9 @@ use Rattle.lvs_model.specs.SysctlWords.{setting_of_words}
 use Rattle.lvs_model.specs.Lines.{lines_of, words_of, is_readable, is_skipped}
 use Rattle.lvs_model.specs.Plans.{shown_by, listings_of, items_of_line}
 use Rattle.lvs_model.specs.ReportLines.{is_byte, are_some_bytes, is_named}
-use Rattle.lvs_types.specs.Limits.{max_items, max_rounds}
-use Rattle.lvs_model.specs.Scripts.{ScriptRead, empty_script, open_round, rounds_read, or_cause, no_words, one_word, two_words, number_given, refuse_if, checked_round, bytes_decoded, bytes_of, line_of_admin, line_of_setting, listing_line, side_of_word, icmp_shown, icmp_line, take_at, take_local, with_line, round_line, take_round_line, take_kind, take_line_words, take_line, take_lines, line_named, checked_place, at_line, script_of, script_read}
+use Rattle.lvs_types.specs.Limits.{max_items}
+use Rattle.lvs_model.specs.Scripts.{ScriptRead, empty_script, open_round, rounds_read, or_cause, no_words, one_word, two_words, number_given, checked_round, bytes_decoded, bytes_of, line_of_admin, line_of_setting, listing_line, side_of_word, icmp_shown, icmp_line, take_at, take_local, with_line, round_line, take_round_line, take_kind, take_line_words, take_line, take_lines, line_named, checked_place, at_line, script_of, script_read}
+use Rattle.lvs_report.proofs.Avoids.{and_true}
 use Rattle.lvs_verdicts.specs.LegalTexts.{AreNamed}
 
 then_ok : {A B E : Type 0} (r : Result A E) (f : A → Result B E) (y : B) → (r >>= f) ≡ Ok y → (x : A) × (r ≡ Ok x) × (f x ≡ Ok y)
@@ -64,16 +63,19 @@ all_bytes (b ∷ bytes) are =
     let rest : list_all is_byte bytes ≡ true = all_bytes bytes (λ i. are (suc i)) in
     cc
 
+nonempty : (b : ℕ) (bytes : List ℕ) → not (length (b ∷ bytes) == 0) ≡ true
+nonempty b bytes = grind (arith, nat_tests)
+
 some_bytes : (bytes : List ℕ) (n : ℕ) → not (n == 0) ≡ true → n ≡ 2 * length bytes → IsBytes bytes → are_some_bytes bytes ≡ true
 some_bytes [] n some twice are = absurd (grind (arith, nat_tests))
-some_bytes (b ∷ bytes) n some twice are = all_bytes (b ∷ bytes) are
+some_bytes (b ∷ bytes) n some twice are = and_true _ _ (nonempty b bytes) (all_bytes (b ∷ bytes) are)
 
 decoded_some : (text : List ℕ) (r : Result (List ℕ) FromHexError) (bytes : List ℕ) → decode_of text ≡ r → not (length text == 0) ≡ true → bytes_decoded r ≡ Ok bytes → are_some_bytes bytes ≡ true
 decoded_some text (Err why) bytes is some e = cc
 decoded_some text (Ok own) bytes is some e =
     let ok = decode_of-ok text own is in
     let same : own ≡ bytes = cc in
-    subst (λ (l : List ℕ). are_some_bytes l ≡ true) same (some_bytes own (length text) some ok.2.2.0 ok.2.2.1)
+    subst (λ (l : List ℕ). are_some_bytes l ≡ true) same (some_bytes own (length text) some ok.2 ok.3)
 
 bytes_by : (empty : Bool) (word bytes : List ℕ) → (length word == 0) ≡ empty → cond empty (Err cause.BadHex) (bytes_decoded (decode_of word)) ≡ Ok bytes → are_some_bytes bytes ≡ true
 bytes_by true word bytes is e = cc
