@@ -10,12 +10,12 @@ invariant_of-result c =
     let n = c.len.result + length c.as_slice.result.now in
     let begins = c.new.ensures.origin ∙ c.of-origin.ensures in
     is_opening c.args.core c.args.plan c.into_parts-board.result.0 c.into_parts-board.result.1.items c.into_parts-board.ensures.agree c.into_parts-board.ensures.steps c.in-Ok.book c.in-Ok.passes.items c.into_vec.result.items n
-        (is_opened c.args.core c.args.plan c.into_parts-board.result.0 c.into_parts-board.result.1.items c.into_parts-board.ensures.agree c.into_parts-board.ensures.steps c.requires.moment c.requires.buckets c.requires.timeless c.requires.some c.requires.many c.requires.young)
-        (omega (arith, c.len.ensures, ap length c.as_slice.ensures))
-        c.in-Ok.ensures.book.0
-        (c.in-Ok.ensures.book.1 ∙ begins)
-        (c.in-Ok.ensures.passes ∙ ap (λ (q : Opened). passes.opened c.in-Ok.book.id q 0 n) begins)
-        c.into_vec.ensures
+    (is_opened c.args.core c.args.plan c.into_parts-board.result.0 c.into_parts-board.result.1.items c.into_parts-board.ensures.agree c.into_parts-board.ensures.steps c.requires.moment c.requires.buckets c.requires.timeless c.requires.some c.requires.many c.requires.young)
+    (omega (arith, c.len.ensures, ap length c.as_slice.ensures))
+    c.in-Ok.ensures.book.0
+    (c.in-Ok.ensures.book.1 ∙ begins)
+    (c.in-Ok.ensures.passes ∙ ap (λ (q : Opened). passes.opened c.in-Ok.book.id q 0 n) begins)
+    c.into_vec.ensures
 
 pub from_parts-requires : goal.from_parts-requires
 from_parts-requires c = (
