@@ -5,23 +5,15 @@ mod alone;
 mod beginning;
 mod chamber;
 mod closing;
-#[cfg(test)]
-mod crew;
 mod director;
-#[cfg(test)]
-mod gates;
 mod name;
 mod opening;
 mod origin;
 mod paired;
 mod played;
-#[cfg(test)]
-mod script;
 mod seat;
 mod sharing;
 mod stepping;
-#[cfg(test)]
-mod tests;
 
 pub use chamber::Chamber;
 pub use director::Director;
