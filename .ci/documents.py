@@ -19,6 +19,9 @@ BELOW_ALL = ("lvs_types", "lvs_model")
 # Crates whose files of definitions the page gives without the crate's name.
 HOMES = ("lvs_model", "lvs_sum")
 
+# Laws, worked examples and tests: their functions have no row among the calls.
+WITHOUT_ROWS = ("lvs_laws/*", "lvs_well_formed/*", "lvs_verdicts/*", "lvs_examples/*", "*/laws.rt", "*examples*", "*tests*")
+
 # The limits that stand in a table, by the words of its row.
 PROFILE_LIMITS = {
     "whole input": ("max_input",),
@@ -227,9 +230,16 @@ def check_answers():
         if not (ROOT / path).exists():
             differs(page, f"{path} isn't there, for {call}")
             continue
-        wanted = {None} if clauses == "its clause" else set(re.findall(r"`(\w+)`", clauses))
+        wanted = {None} if clauses == "its clause" else set() if clauses == "none" else set(re.findall(r"`(\w+)`", clauses))
         if not any(wanted <= has for has in contracts(path, re.match(r"`(\w+)`", call).group(1))):
             differs(page, f"{call} has no clause {clauses} in {path}")
+    named = {(re.match(r"`(\w+)`", call).group(1), path) for call, _, path in told}
+    for file in sorted(ROOT.glob("crates/*/src/**/*.rt")):
+        path = file.relative_to(ROOT / "crates").as_posix()
+        if not any(fnmatch.fnmatch(path, pattern) for pattern in WITHOUT_ROWS):
+            for name in re.findall(r"^ *pub fn (\w+)", read(f"crates/{path}"), re.M):
+                if (name, path) not in named:
+                    differs(page, f"{name} of {path} has no row")
     for cells in rows(page, "A body that"):
         for crate, edit in re.findall(r"\b((?:lvs_|ipvsd)\w*)/(\w+)", cells[1]):
             if not (ROOT / f"crates/{crate}/must-fail/{edit}.edit").exists():
