@@ -2,8 +2,8 @@
 """Compares what the documents print with the code that it is printed from.
 
 crates.txt with the table of crates; the statuses, causes and limits with the tables that tell them;
-the files of definitions with the page that names them. Prints each difference as one line, with the
-place where it is to be mended, and ends with status 1 if there is one.
+the files of definitions with the page that names them; calls, clauses and edits with the page on answers.
+Prints each difference as one line, with the place where it is to be mended, and ends with status 1 if there is one.
 """
 
 import fnmatch
@@ -18,6 +18,9 @@ BELOW_ALL = ("lvs_types", "lvs_model")
 
 # Crates whose files of definitions the page gives without the crate's name.
 HOMES = ("lvs_model", "lvs_sum")
+
+# Laws, worked examples and tests: their functions have no row among the calls.
+WITHOUT_ROWS = ("lvs_laws/*", "lvs_well_formed/*", "lvs_verdicts/*", "lvs_examples/*", "*/laws.rt", "*examples*", "*tests*")
 
 # The limits that stand in a table, by the words of its row.
 PROFILE_LIMITS = {
@@ -210,8 +213,41 @@ def check_definitions():
         compare("docs/DEFINITIONS.md", f"the file of {crate}", told, files)
 
 
+def contracts(path, name):
+    """The names of the clauses of each function of that name in a file, with None for a clause without one."""
+    for found_at in re.finditer(rf"^ *(?:pub )?fn {name}\b", read(path), re.M):
+        head = re.split(r"\n *\{|;\n|\n\n", read(path)[found_at.start() :], maxsplit=1)[0]
+        yield {name or None for name in re.findall(r"^ *ensures (\w*)", head, re.M)}
+
+
+def check_answers():
+    """Calls, clauses and files of the page on answers, and the edits that it names."""
+    page = "docs/ANSWERS.md"
+    told = [(cells[1], cells[3], cells[4]) for cells in rows(page, "Answer")]
+    told += [(cells[0], cells[2], cells[3]) for cells in rows(page, "Call")]
+    for call, clauses, path in told:
+        path = f"crates/{path}"
+        if not (ROOT / path).exists():
+            differs(page, f"{path} isn't there, for {call}")
+            continue
+        wanted = {None} if clauses == "its clause" else set() if clauses == "none" else set(re.findall(r"`(\w+)`", clauses))
+        if not any(wanted <= has for has in contracts(path, re.match(r"`(\w+)`", call).group(1))):
+            differs(page, f"{call} has no clause {clauses} in {path}")
+    named = {(re.match(r"`(\w+)`", call).group(1), path) for call, _, path in told}
+    for file in sorted(ROOT.glob("crates/*/src/**/*.rt")):
+        path = file.relative_to(ROOT / "crates").as_posix()
+        if not any(fnmatch.fnmatch(path, pattern) for pattern in WITHOUT_ROWS):
+            for name in re.findall(r"^ *pub fn (\w+)", read(f"crates/{path}"), re.M):
+                if (name, path) not in named:
+                    differs(page, f"{name} of {path} has no row")
+    for cells in rows(page, "A body that"):
+        for crate, edit in re.findall(r"\b((?:lvs_|ipvsd)\w*)/(\w+)", cells[1]):
+            if not (ROOT / f"crates/{crate}/must-fail/{edit}.edit").exists():
+                differs(page, f"crates/{crate}/must-fail/{edit}.edit isn't there")
+
+
 def main():
-    for check in (check_crates, check_statuses, check_causes, check_replies, check_limits, check_definitions):
+    for check in (check_crates, check_statuses, check_causes, check_replies, check_limits, check_definitions, check_answers):
         check()
     for line in found:
         print(line)
