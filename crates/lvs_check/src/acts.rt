@@ -27,7 +27,7 @@ impl Walk<'_> {
         let Some(item) = take_next(&mut self.queues, actor, number) else {
             return Err(unreadable(at));
         };
-        let reply = self.director.step(alloc, &item)?;
+        let reply = self.director.step(alloc, item)?;
         let expected = act_words(alloc, self.place, actor, number, reply)?;
         check_text(alloc, at, &expected)?;
         self.place += 1;

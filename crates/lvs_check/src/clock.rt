@@ -43,7 +43,7 @@ impl Walk<'_> {
         let Some(item) = take_next(&mut self.queues, 0, number) else {
             return Ok(());
         };
-        let reply = self.director.step(alloc, &item)?;
+        let reply = self.director.step(alloc, item)?;
         if is_printed(&reply) {
             let expected = act_words(alloc, self.place, 0, number, reply)?;
             return Err(illegal(alloc, at, &expected)?);

@@ -34,7 +34,7 @@ impl<'a> Walk<'a> {
         ensures fit { OnOk result (IsFit self.new) }
     {
         let plan = plan(alloc, round, sizes.workers, sizes.buckets)?;
-        self.director.step(alloc, &Item::Tick(round.moment))?;
+        self.director.step(alloc, Item::Tick(round.moment))?;
         self.queues = queues_of(alloc, plan.lists.into_vec())?;
         self.shown = VecDeque::from(plan.shown.into_vec());
         self.number += 1;
@@ -90,7 +90,7 @@ impl<'a> Walk<'a> {
         if at.text != expected.as_slice() {
             return Err(unreadable(at));
         }
-        self.due = listing_lines(alloc, &self.director, &kind)?;
+        self.due = listing_lines(alloc, &mut self.director, &kind)?;
         Ok(())
     }
 

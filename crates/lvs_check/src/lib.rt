@@ -17,6 +17,7 @@ mod walk;
 mod words;
 
 pub use checking::check;
+pub use listing::listing_text;
 
 #[cfg(test)]
 mod tests;

@@ -26,8 +26,9 @@ fn answer_text(
     print_icmp_answer(alloc, &answer)
 }
 
-/// The lines between the first one of a listing and its `end`.
-fn text_of(alloc: Global, tables: &Snapshot, kind: &Shown) -> Result<Bytes, NoMemory>
+/// The lines of a listing between its first one and its `end`, or the line of the answer to an ICMP
+/// error.
+pub fn listing_text(alloc: Global, tables: &Snapshot, kind: &Shown) -> Result<Bytes, NoMemory>
     ensures { IfOk result (λ text. text ≡ text_of tables.entry.now kind.now) }
 {
     match kind {
@@ -42,13 +43,13 @@ fn text_of(alloc: Global, tables: &Snapshot, kind: &Shown) -> Result<Bytes, NoMe
 /// The lines of a listing of the director as it is, behind its first one, `end` included.
 pub(crate) fn listing_lines(
     alloc: Global,
-    director: &Director,
+    director: &mut Director,
     kind: &Shown,
 ) -> Result<Due, NoMemory>
-    ensures { IfOk result (λ due. due ≡ listing_lines director.now.state kind.now) }
+    ensures lines { IfOk result (λ due. due ≡ listing_lines director.old.state kind.now) }
+    ensures kept { director.new ≡ director.old }
 {
-    let tables = director.snapshot(alloc)?;
-    let mut text = text_of(alloc, &tables, kind)?.into_vec();
+    let mut text = director.show(alloc, kind)?.into_vec();
     text.extend_from_slice(b"end")?;
     Ok(Due::lines(text))
 }

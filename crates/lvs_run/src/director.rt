@@ -5,7 +5,7 @@ ghost use Rattle.lvs_model.specs.Step.{step, IsInRange};
 ghost use Rattle.lvs_model.specs.Plans.{listings_of};
 ghost use Rattle.lvs_model.specs.Listings.{shown_of};
 
-use crate::listings::{has_listing, show_lines};
+use crate::listings::show_round;
 use lvs_core::Core;
 use lvs_types::{Addr, Item, Listed, NoMemory, Reply, Round, ShownText};
 use std::alloc::Global;
@@ -37,26 +37,25 @@ impl Director {
         })
     }
 
-    /// Takes an item. Scripts name no item that the director can't take, and no script has so many
-    /// that it couldn't count them.
-    pub(crate) fn step(&mut self, alloc: Global, item: &Item) -> Result<Reply, NoMemory>
-        requires in_range { IsInRange item.now }
+    /// Takes an item, which comes back with its reply: no byte of it is copied. Scripts name no item
+    /// that the director can't take, and no script has so many that it couldn't count them.
+    pub(crate) fn step(&mut self, alloc: Global, item: Item) -> Result<(Item, Reply), NoMemory>
+        requires in_range { IsInRange item }
         requires young { self.old.steps < 2 ^ 62 }
-        ensures ok { IfOk result (λ reply. (reply, self.new.state) ≡ step self.old.state item.now) }
+        ensures ok { IfOk result (λ r. (r.1, self.new.state) ≡ step self.old.state item) }
+        ensures item { IfOk result (λ r. r.0 ≡ item) }
         ensures steps { OnOk result (self.new.steps ≡ self.old.steps + 1) }
     {
-        self.core.step(alloc, item)
+        match self.core.step_owned(alloc, item) {
+            Ok(answered) => Ok(answered),
+            Err((_, cause)) => Err(cause),
+        }
     }
 
     /// The listings of a round, of the director as it is now.
     pub(crate) fn show(&self, alloc: Global, round: &Round) -> Result<Listed<ShownText>, NoMemory>
         ensures { IfOk result (λ shown. shown ≡ shown_of self.now.state (listings_of round.now)) }
     {
-        if !has_listing(round) {
-            return Ok(Listed::new(alloc));
-        }
-        let tables = self.core.snapshot(alloc)?;
-        let shown = show_lines(alloc, &tables, round.lines.as_slice())?;
-        Ok(Listed::from_vec(shown))
+        show_round(alloc, &self.core, round)
     }
 }

@@ -17,6 +17,9 @@ mod round;
 mod rounds;
 mod serial;
 mod streams;
+mod threaded;
+mod threaded_commands;
+mod threaded_rounds;
 mod verdict;
 mod writing;
 
@@ -39,3 +42,5 @@ mod icmp_rows;
 mod rows;
 #[cfg(test)]
 mod tests;
+#[cfg(test)]
+mod threaded_rows;

@@ -1,15 +1,13 @@
 //! The listings of a round.
 ghost use Rattle.std.specs.Prelude.{◌≡◌, IfOk};
 ghost use Rattle.std.specs.List.{list_any, filter_map};
-ghost use Rattle.lvs_model.specs.Plans.{shown_by};
-ghost use Rattle.lvs_model.specs.IcmpErrors.{icmp_answer, icmp_text};
-ghost use Rattle.lvs_model.specs.Listings.{text_of};
+ghost use Rattle.lvs_model.specs.Plans.{shown_by, listings_of};
+ghost use Rattle.lvs_model.specs.Listings.{shown_of};
 ghost use Rattle.lvs_run.specs.Listings.{is_listing, shown_in, all_shown_in};
 
-use lvs_icmp::answer;
-use lvs_listing::{list, list_conns, save};
-use lvs_report::print_icmp_answer;
-use lvs_types::{Bytes, NoMemory, Round, ScriptLine, Shown, ShownText, Side, Snapshot};
+use lvs_check::listing_text;
+use lvs_core::Core;
+use lvs_types::{Listed, NoMemory, Round, ScriptLine, Shown, ShownText, Snapshot};
 use std::alloc::Global;
 
 fn is_listing(line: &ScriptLine) -> bool
@@ -22,36 +20,10 @@ fn is_listing(line: &ScriptLine) -> bool
 }
 
 /// Whether a round asks for a listing.
-pub(crate) fn has_listing(round: &Round) -> bool
+fn has_listing(round: &Round) -> bool
     ensures { result ≡ list_any is_listing round.now.lines }
 {
     round.lines.as_slice().iter().any(is_listing)
-}
-
-/// The line of the answer to an ICMP error.
-fn answer_text(
-    alloc: Global,
-    tables: &Snapshot,
-    side: Side,
-    bytes: &Bytes,
-) -> Result<Bytes, NoMemory>
-    ensures { IfOk result (λ text. text ≡ icmp_text (icmp_answer tables.entry.now side bytes.now)) }
-{
-    let answer = answer(alloc, tables, side, bytes.as_slice())?;
-    print_icmp_answer(alloc, &answer)
-}
-
-/// The lines of a listing, or the line of the answer to an ICMP error.
-fn text_of(alloc: Global, tables: &Snapshot, kind: &Shown) -> Result<Bytes, NoMemory>
-    ensures { IfOk result (λ text. text ≡ text_of tables.entry.now kind.now) }
-{
-    match kind {
-        Shown::List => list(alloc, tables),
-        Shown::Conns => list_conns(alloc, tables),
-        Shown::Save => save(alloc, tables),
-        Shown::IcmpIn(bytes) => answer_text(alloc, tables, Side::Inward, bytes),
-        Shown::IcmpOut(bytes) => answer_text(alloc, tables, Side::Outward, bytes),
-    }
 }
 
 /// A listing with its lines.
@@ -60,12 +32,12 @@ fn show(alloc: Global, tables: &Snapshot, kind: &Shown) -> Result<ShownText, NoM
 {
     Ok(ShownText {
         kind: kind.copy(alloc)?,
-        text: text_of(alloc, tables, kind)?,
+        text: listing_text(alloc, tables, kind)?,
     })
 }
 
 /// The listings that lines ask for, in their order.
-pub(crate) fn show_lines(
+fn show_lines(
     alloc: Global,
     tables: &Snapshot,
     lines: &[ScriptLine],
@@ -79,4 +51,20 @@ pub(crate) fn show_lines(
         }
     }
     Ok(all)
+}
+
+/// The listings of a round, of a director as it is now.
+pub(crate) fn show_round(
+    alloc: Global,
+    core: &Core,
+    round: &Round,
+) -> Result<Listed<ShownText>, NoMemory>
+    ensures { IfOk result (λ shown. shown ≡ shown_of core.now.state (listings_of round.now)) }
+{
+    if !has_listing(round) {
+        return Ok(Listed::new(alloc));
+    }
+    let tables = core.snapshot(alloc)?;
+    let shown = show_lines(alloc, &tables, round.lines.as_slice())?;
+    Ok(Listed::from_vec(shown))
 }

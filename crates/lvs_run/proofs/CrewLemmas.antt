@@ -1,0 +1,50 @@
+-- A round that was played by threads.
+use Rattle.std.proofs.Common.{◌≡◌, ℕ, ◌+◌, ◌≤◌, List, [], ◌∷◌, length, refl, sym, ◌∙◌, ap, subst, arith}
+use Rattle.lvs_types.specs.declared.addr.Addr.{Addr}
+use Rattle.lvs_types.specs.declared.item.Item.{Item}
+use Rattle.lvs_types.specs.declared.item.Item.TheVariants as item
+use Rattle.lvs_types.specs.declared.reply.Reply.{Reply}
+use Rattle.lvs_types.specs.declared.book.RoundBook.{RoundBook}
+use Rattle.lvs_types.specs.declared.script.Round.{Round}
+use Rattle.lvs_model.specs.State.{State, initial}
+use Rattle.lvs_model.specs.Step.{step, run}
+use Rattle.lvs_model.specs.Plans.{plan}
+use Rattle.lvs_model.specs.Books.{IsSound, IsRun, IsWhole, at_moment, items_of}
+use Rattle.lvs_model.specs.Listings.{shown_of}
+use Rattle.lvs_model.specs.Plans.{listings_of}
+use Rattle.lvs_model.specs.WellFormed.{IsWellFormed}
+use Rattle.lvs_well_formed.proofs.Parts.{parts_of}
+use Rattle.lvs_well_formed.proofs.Steps.{initial_well_formed, step_well_formed, run_well_formed}
+use Rattle.lvs_well_formed.proofs.BucketSteps.{step_base}
+use Rattle.lvs_run.specs.Crews.{IsCrew, IsCrewOf}
+use Rattle.lvs_run.specs.Ways.{threaded_way, IsPlayed}
+
+-- the number of buckets stays
+run_buckets : (s : State) (items : List Item) → IsWellFormed s → (run s items).1.buckets ≡ s.buckets
+run_buckets s [] is = refl
+run_buckets s (first ∷ items) is =
+    run_buckets (step s first).1 items (step_well_formed s first is) ∙ (step_base s first (parts_of s is)).1
+
+-- at the start
+pub crew_at_first : (workers buckets : ℕ) (local : Addr) (s : State) → IsCrew workers buckets → s ≡ initial local buckets → IsCrewOf workers buckets s
+crew_at_first workers buckets local s crew first =
+    let start : IsCrewOf workers buckets (initial local buckets) = record { crew = crew; over = refl; well_formed = initial_well_formed local buckets } in
+    subst (λ (t : State). IsCrewOf workers buckets t) (sym first) start
+
+-- after a run
+crew_after : (workers buckets : ℕ) (s : State) (items : List Item) → IsCrewOf workers buckets s → IsCrewOf workers buckets (run s items).1
+crew_after workers buckets s items crew = record {
+  crew = crew.crew;
+  over = run_buckets s items crew.well_formed ∙ crew.over;
+  well_formed = run_well_formed s items crew.well_formed;
+}
+
+crew_ticked : (workers buckets moment : ℕ) (s : State) → IsCrewOf workers buckets s → IsCrewOf workers buckets (at_moment s moment)
+crew_ticked workers buckets moment s crew = crew_after workers buckets s (item.Tick moment ∷ []) crew
+
+-- after a round
+pub crew_left : (workers buckets number : ℕ) (round : Round) (before left : State) (book : RoundBook) → IsCrewOf workers buckets before → IsPlayed (threaded_way workers buckets) number round before book left → IsCrewOf workers buckets left
+crew_left workers buckets number round before left book crew played =
+    let end : (run (at_moment before round.moment) (items_of book.acts)).1 ≡ left = ap (λ (p : List Reply × State). p.1) played.legal.sound.replies in
+    subst (λ (t : State). IsCrewOf workers buckets t) end
+    (crew_after workers buckets (at_moment before round.moment) (items_of book.acts) (crew_ticked workers buckets round.moment before crew))
