@@ -1,11 +1,13 @@
 -- A round that was played by threads.
-use Rattle.std.proofs.Common.{◌≡◌, ℕ, ◌+◌, ◌≤◌, List, [], ◌∷◌, length, refl, sym, ◌∙◌, ap, subst, arith}
+use Rattle.std.proofs.Common.{◌≡◌, ℕ, ◌+◌, ◌≤◌, List, [], ◌∷◌, Option, Some, None, IfSome, length, refl, sym, ◌∙◌, ap, subst, arith}
 use Rattle.lvs_types.specs.declared.addr.Addr.{Addr}
 use Rattle.lvs_types.specs.declared.item.Item.{Item}
 use Rattle.lvs_types.specs.declared.item.Item.TheVariants as item
 use Rattle.lvs_types.specs.declared.reply.Reply.{Reply}
 use Rattle.lvs_types.specs.declared.book.RoundBook.{RoundBook}
 use Rattle.lvs_types.specs.declared.script.Round.{Round}
+use Rattle.lvs_types.specs.declared.script.Script.{Script}
+use Rattle.lvs_core.specs.Seen.{CoreSeen}
 use Rattle.lvs_model.specs.State.{State, initial}
 use Rattle.lvs_model.specs.Step.{step, run}
 use Rattle.lvs_model.specs.Plans.{plan}
@@ -17,7 +19,11 @@ use Rattle.lvs_well_formed.proofs.Parts.{parts_of}
 use Rattle.lvs_well_formed.proofs.Steps.{initial_well_formed, step_well_formed, run_well_formed}
 use Rattle.lvs_well_formed.proofs.BucketSteps.{step_base}
 use Rattle.lvs_run.specs.Crews.{IsCrew, IsCrewOf}
-use Rattle.lvs_run.specs.Ways.{threaded_way, IsPlayed}
+use Rattle.lvs_model.specs.Tasks.{state_behind}
+use Rattle.lvs_run.specs.declared.writing.Wrote.{Wrote}
+use Rattle.lvs_run.specs.declared.writing.Wrote.TheVariants as wrote
+use Rattle.lvs_run.specs.Ways.{Way, threaded_way, IsPlayed, ArePlayed}
+use Rattle.lvs_run.proofs.LegalLemmas.{left_of_run}
 
 -- the number of buckets stays
 run_buckets : (s : State) (items : List Item) → IsWellFormed s → (run s items).1.buckets ≡ s.buckets
@@ -48,3 +54,8 @@ crew_left workers buckets number round before left book crew played =
     let end : (run (at_moment before round.moment) (items_of book.acts)).1 ≡ left = ap (λ (p : List Reply × State). p.1) played.legal.sound.replies in
     subst (λ (t : State). IsCrewOf workers buckets t) end
     (crew_after workers buckets (at_moment before round.moment) (items_of book.acts) (crew_ticked workers buckets round.moment before crew))
+
+-- a core that is left has the state that the books leave
+pub core_left : (way : Way) (script : Script) (s : State) (rounds : List Round) (books : List RoundBook) (w : Wrote) (left : Option CoreSeen) → s ≡ initial script.local way.buckets → rounds ≡ script.rounds → IfSome left (λ (k : CoreSeen). (w ≡ wrote.All) × ArePlayed way 0 s rounds books k.state) → IfSome left (λ (k : CoreSeen). (w ≡ wrote.All) × (k.state ≡ state_behind (initial script.local way.buckets) books))
+core_left way script s rounds books w None first are is = tt
+core_left way script s rounds books w (Some k) first are is = (is.0, left_of_run way script s rounds books k.state first are is.1)

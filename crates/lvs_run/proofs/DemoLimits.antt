@@ -19,7 +19,7 @@ clients_count flags clients = lines_count flags (numbers_from 0 clients) ∙ num
 
 generated_within : (clients : ℕ) → clients ≤ 100000 → IsWithinLimits (generated clients).rounds
 generated_within clients few = record {
-  moments = (omega arith, omega arith, omega arith, tt);
+  moments = (omega arith, (omega arith, (omega arith, tt)));
   items = omega (arith, edits_count, clients_count syn_flag clients, clients_count ack_flag clients, few);
   few = omega arith;
 }

@@ -58,7 +58,7 @@ timeless_actor actor round = all_filter IsTimeless (λ (i : Item). actor_of i ==
 
 pub timeless_plan : (round : Round) (workers buckets : ℕ) → AreTimeless (plan round workers buckets).lists
 timeless_plan round workers buckets =
-    (timeless_clock buckets, timeless_actor 1 round, timeless_actor 2 round, timeless_workers workers (items_of_actor 3 (items_of_lines round)) (numbers_from 0 workers) (timeless_actor 3 round))
+    (timeless_clock buckets, (timeless_actor 1 round, (timeless_actor 2 round, timeless_workers workers (items_of_actor 3 (items_of_lines round)) (numbers_from 0 workers) (timeless_actor 3 round))))
 
 -- FEW LISTS
 

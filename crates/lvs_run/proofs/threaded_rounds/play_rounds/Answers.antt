@@ -10,32 +10,32 @@ use Rattle.lvs_run.proofs.Runs.{next_round, played_on}
 use Rattle.lvs_run.proofs.threaded_rounds.play_rounds.Goals as goal
 
 pub returns-then-is_err-clause-played : goal.returns-then-is_err-clause-played
-returns-then-is_err-clause-played g c = (c.loop-round.core.state, rw c.reserve.ensures.items c.loop-round.invariant.played)
+returns-then-is_err-clause-played g c = (c.loop-round.core.state, rw (c.stopped.ensures.rounds, c.reserve.ensures.items) c.loop-round.invariant.played)
 
 pub returns-then-is_err-clause-written : goal.returns-then-is_err-clause-written
 returns-then-is_err-clause-written g c =
-    rw c.reserve.ensures.items (part_whole (g.K.Sink.written c.args.sink.now) (g.K.Sink.written c.loop-round.sink) (all_written_of c.args.output c.loop-round.books.items) c.loop-round.invariant.written)
+    rw (c.stopped.ensures.wrote, c.stopped.ensures.rounds, c.reserve.ensures.items) (part_whole (g.K.Sink.written c.args.sink.now) (g.K.Sink.written c.loop-round.sink) (all_written_of c.args.output c.loop-round.books.items) c.loop-round.invariant.written)
 
 pub returns-in_default-clause-played : goal.returns-in_default-clause-played
-returns-in_default-clause-played g c = (c.loop-round.core.state, rw c.reserve.ensures.items c.loop-round.invariant.played)
+returns-in_default-clause-played g c = (c.loop-round.core.state, rw (c.stopped-in_default.ensures.rounds, c.reserve.ensures.items) c.loop-round.invariant.played)
 
 pub returns-in_default-clause-written : goal.returns-in_default-clause-written
 returns-in_default-clause-written g c =
-    rw c.reserve.ensures.items (part_whole (g.K.Sink.written c.args.sink.now) (g.K.Sink.written c.loop-round.sink) (all_written_of c.args.output c.loop-round.books.items) c.loop-round.invariant.written)
+    rw (c.stopped-in_default.ensures.wrote, c.stopped-in_default.ensures.rounds, c.reserve.ensures.items) (part_whole (g.K.Sink.written c.args.sink.now) (g.K.Sink.written c.loop-round.sink) (all_written_of c.args.output c.loop-round.books.items) c.loop-round.invariant.written)
 
 pub returns-in-Prefix-clause-played : goal.returns-in-Prefix-clause-played
-returns-in-Prefix-clause-played g c = (c.in-Ok.left.state, played_on (threaded_way c.args.crew.now.workers c.args.crew.now.buckets) c.args.core.state c.args.rounds.now c.loop-round.books.items c.push_reserved.new.self.items c.loop-round.round-index c.len.result c.round-item.result c.in-Ok.book c.loop-round.core.state c.in-Ok.left.state c.loop-round.invariant.played c.loop-round.invariant.count (next_round c.args.rounds.now c.loop-round.round-index c.round-item.result c.loop-round-test.true c.round-item.is) (omega (arith, c.len.ensures, c.reserve.new.self.ok.0, ap length c.reserve.ensures.items, c.loop-round.invariant.count)) (c.push_reserved.ensures.items ∙ ap (λ (l : List RoundBook). l ++ c.in-Ok.book ∷ []) c.reserve.ensures.items) c.in-Ok.ensures.played)
+returns-in-Prefix-clause-played g c = (c.in-Ok.left.state, rw c.stopped-in-Prefix.ensures.rounds (played_on (threaded_way c.args.crew.now.workers c.args.crew.now.buckets) c.args.core.state c.args.rounds.now c.loop-round.books.items c.push_reserved.new.self.items c.loop-round.round-index c.len.result c.round-item.result c.in-Ok.book c.loop-round.core.state c.in-Ok.left.state c.loop-round.invariant.played c.loop-round.invariant.count (next_round c.args.rounds.now c.loop-round.round-index c.round-item.result c.loop-round-test.true c.round-item.is) (omega (arith, c.len.ensures, c.reserve.new.self.ok.0, ap length c.reserve.ensures.items, c.loop-round.invariant.count)) (c.push_reserved.ensures.items ∙ ap (λ (l : List RoundBook). l ++ c.in-Ok.book ∷ []) c.reserve.ensures.items) c.in-Ok.ensures.played))
 
 pub returns-in-Prefix-clause-written : goal.returns-in-Prefix-clause-written
 returns-in-Prefix-clause-written g c =
-    rw (c.push_reserved.ensures.items, c.reserve.ensures.items) (all_but_last c.args.output (g.K.Sink.written c.args.sink.now) (g.K.Sink.written c.loop-round.sink) (g.K.Sink.written c.write_round-wrote.new.sink) c.loop-round.books.items c.in-Ok.book c.loop-round.invariant.written c.in-Prefix.ensures.text)
+    rw (c.stopped-in-Prefix.ensures.wrote, c.stopped-in-Prefix.ensures.rounds, c.push_reserved.ensures.items, c.reserve.ensures.items) (all_but_last c.args.output (g.K.Sink.written c.args.sink.now) (g.K.Sink.written c.loop-round.sink) (g.K.Sink.written c.write_round-wrote.new.sink) c.loop-round.books.items c.in-Ok.book c.loop-round.invariant.written c.in-Prefix.ensures.text)
 
 pub returns-in-NoMemory-clause-played : goal.returns-in-NoMemory-clause-played
-returns-in-NoMemory-clause-played g c = (c.in-Ok.left.state, played_on (threaded_way c.args.crew.now.workers c.args.crew.now.buckets) c.args.core.state c.args.rounds.now c.loop-round.books.items c.push_reserved.new.self.items c.loop-round.round-index c.len.result c.round-item.result c.in-Ok.book c.loop-round.core.state c.in-Ok.left.state c.loop-round.invariant.played c.loop-round.invariant.count (next_round c.args.rounds.now c.loop-round.round-index c.round-item.result c.loop-round-test.true c.round-item.is) (omega (arith, c.len.ensures, c.reserve.new.self.ok.0, ap length c.reserve.ensures.items, c.loop-round.invariant.count)) (c.push_reserved.ensures.items ∙ ap (λ (l : List RoundBook). l ++ c.in-Ok.book ∷ []) c.reserve.ensures.items) c.in-Ok.ensures.played)
+returns-in-NoMemory-clause-played g c = (c.in-Ok.left.state, rw c.stopped-in-NoMemory.ensures.rounds (played_on (threaded_way c.args.crew.now.workers c.args.crew.now.buckets) c.args.core.state c.args.rounds.now c.loop-round.books.items c.push_reserved.new.self.items c.loop-round.round-index c.len.result c.round-item.result c.in-Ok.book c.loop-round.core.state c.in-Ok.left.state c.loop-round.invariant.played c.loop-round.invariant.count (next_round c.args.rounds.now c.loop-round.round-index c.round-item.result c.loop-round-test.true c.round-item.is) (omega (arith, c.len.ensures, c.reserve.new.self.ok.0, ap length c.reserve.ensures.items, c.loop-round.invariant.count)) (c.push_reserved.ensures.items ∙ ap (λ (l : List RoundBook). l ++ c.in-Ok.book ∷ []) c.reserve.ensures.items) c.in-Ok.ensures.played))
 
 pub returns-in-NoMemory-clause-written : goal.returns-in-NoMemory-clause-written
 returns-in-NoMemory-clause-written g c =
-    rw (c.push_reserved.ensures.items, c.reserve.ensures.items) (part_without_last c.args.output (g.K.Sink.written c.args.sink.now) (g.K.Sink.written c.loop-round.sink) (g.K.Sink.written c.write_round-wrote.new.sink) c.loop-round.books.items c.in-Ok.book c.loop-round.invariant.written c.in-NoMemory.ensures.text)
+    rw (c.stopped-in-NoMemory.ensures.wrote, c.stopped-in-NoMemory.ensures.rounds, c.push_reserved.ensures.items, c.reserve.ensures.items) (part_without_last c.args.output (g.K.Sink.written c.args.sink.now) (g.K.Sink.written c.loop-round.sink) (g.K.Sink.written c.write_round-wrote.new.sink) c.loop-round.books.items c.in-Ok.book c.loop-round.invariant.written c.in-NoMemory.ensures.text)
 
 pub write_round-wrote-requires : goal.write_round-wrote-requires
 write_round-wrote-requires g c =
