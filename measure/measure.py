@@ -13,6 +13,8 @@ import subprocess
 import sys
 import tempfile
 
+import attacks
+
 HERE = os.path.dirname(os.path.abspath(__file__))
 PROGRAM = os.path.join(HERE, "..", "crates", "ipvsd", "out", "ipvsd")
 TRAFFIC = os.path.join(HERE, "traffic.py")
@@ -117,55 +119,17 @@ def service_rows(room, runs):
         row("serial, 50,000 connections, 1,000 services of 100 servers, %s" % scheduler, other[0], other[1], "%.2f times the other" % (other[1] / mine[1]))
 
 
-def write_attack(path, lines):
-    with open(path, "w") as out:
-        for line in lines:
-            out.write(line + "\n")
-    return path
-
-
-def servers_and_connections(count):
-    """As many servers as connections, each connection of another client."""
-    sys.path.insert(0, HERE)
-    import traffic
-    virtual = traffic.address("10.0.0.1")
-    yield "at 0"
-    yield "ipvs -A -t 10.0.0.1:80 -s rr"
-    for number in range(count):
-        yield "ipvs -a -t 10.0.0.1:80 -r 192.168.%d.%d -g" % (number // 250, number % 250 + 1)
-    for number in range(count):
-        yield "in 0 " + traffic.packet(number, virtual, 80, True).hex()
-
-
-def rounds_of_nothing(servers, entries, rounds):
-    yield from servers_and_connections(entries)
-    for number in range(entries, servers):
-        yield "ipvs -a -t 10.0.0.1:80 -r 192.168.%d.%d -g" % (number // 250, number % 250 + 1)
-    for moment in range(1, rounds):
-        yield "at %d" % moment
-
-
-def weightless_hash(servers, connections):
-    sys.path.insert(0, HERE)
-    import traffic
-    virtual = traffic.address("10.0.0.1")
-    yield "at 0"
-    yield "ipvs -A -t 10.0.0.1:80 -s mh"
-    for number in range(servers):
-        yield "ipvs -a -t 10.0.0.1:80 -r 192.168.%d.%d -g -w %d" % (number // 250, number % 250 + 1, 1 if number == 0 else 0)
-    for number in range(connections):
-        yield "in 0 " + traffic.packet(number, virtual, 80, True).hex()
-
-
 def attack_rows(room, runs):
-    attacks = [
-        ("1,370 servers and connections", servers_and_connections(1370)),
-        ("2,750 servers and connections", servers_and_connections(2750)),
-        ("2,200 servers, 1,100 entries, 4,096 rounds", rounds_of_nothing(2200, 1100, 4096)),
-        ("mh, 1,000 servers of weight 0, 3,000 connections", weightless_hash(1000, 3000)),
-    ]
-    for name, lines in attacks:
-        given = write_attack(os.path.join(room, "attack"), lines)
+    """Scripts of 1 MB that go at one place each, and those of less that took longest on plain lists."""
+    smaller = {
+        "1,370 servers and connections": attacks.servers_and_connections(1370),
+        "2,750 servers and connections": attacks.servers_and_connections(2750),
+        "2,200 servers, 1,100 entries, 4,096 rounds": attacks.rounds_of_nothing(2200, 1100, 4096),
+    }
+    for name, lines in [*smaller.items(), *((name, attacks.script(name)) for name in attacks.ATTACKS)]:
+        given = os.path.join(room, "attack")
+        with open(given, "w") as out:
+            out.writelines(line + "\n" for line in lines)
         mine = measure([PROGRAM, "serial"], given, os.path.join(room, "report"), min(runs, 3))
         row("serial, %s, %d bytes" % (name, os.path.getsize(given)), mine[0], mine[1], "status %d" % mine[3])
 

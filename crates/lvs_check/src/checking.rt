@@ -2,9 +2,11 @@
 ghost use Rattle.std.specs.Prelude.{◌≡◌, IfOk};
 ghost use Rattle.std.specs.List.{slice_split};
 ghost use Rattle.lvs_types.specs.declared.script.Script.{Script};
+ghost use Rattle.lvs_types.specs.declared.report.Verdict.TheVariants as verdict;
 ghost use Rattle.lvs_model.specs.Lines.{is_feed};
 ghost use Rattle.lvs_model.specs.Checking.{judged_from, judgement};
 ghost use Rattle.lvs_model.specs.ScriptLimits.{IsWithinLimits};
+ghost use Rattle.lvs_verdicts.specs.LegalTexts.{IsTextOfLegalBooks, AreNamed};
 ghost use Rattle.lvs_check.specs.Kinds.{sizes_in, AreGood, judged_with};
 ghost use Rattle.lvs_check.specs.Walks.{progress_of, IsFit};
 
@@ -53,10 +55,13 @@ fn judge(
 
 /// The verdict on a report of a script, which is within the limits of scripts: legal, or the first
 /// line that fails, from 1, and where its text isn't the director's both texts (this project's
-/// profile).
+/// profile). A legal report is the text of legal books of the script, and the text of such books is
+/// legal where the script's listings have names, as those of each script that was read do.
 pub fn check(alloc: Global, script: &Script, report: &[u8]) -> Result<Verdict, NoMemory>
     requires within { IsWithinLimits script.now.rounds }
-    ensures { IfOk result (λ verdict. verdict ≡ judgement script.now report.now) }
+    ensures judged { IfOk result (λ verdict. verdict ≡ judgement script.now report.now) }
+    ensures legal { IfOk result (λ said. said ≡ verdict.Legal → IsTextOfLegalBooks script.now report.now) }
+    ensures text { AreNamed script.now.rounds → IsTextOfLegalBooks script.now report.now → IfOk result (λ said. said ≡ verdict.Legal) }
 {
     let sizes = first_sizes(alloc, report)?;
     let mut walk = begin(alloc, script, sizes)?;

@@ -15,8 +15,10 @@ const TEMPLATE: u32 = 0x1000;
 
 /// What the headers of an item's packet say, and the item's bucket: none where it has none.
 #[derive(Drop)]
-pub(crate) struct Home {
+pub struct Home {
+    /// None where the item is no packet, or its headers can't be read.
     pub head: Option<Head>,
+    /// Below the number of buckets.
     pub bucket: Option<u32>,
 }
 
@@ -121,7 +123,7 @@ fn find_swept(bucket: u32, buckets: u32) -> Option<u32>
 }
 
 /// What an item's headers say, and its bucket, of so many.
-pub(crate) fn place(item: &Item, buckets: u32) -> Home
+pub fn place(item: &Item, buckets: u32) -> Home
     requires { 0 < buckets }
     ensures head { result.head ≡ head_of_item item.now }
     ensures bucket { result.bucket ≡ home buckets item.now }

@@ -10,3 +10,4 @@ mod stepping;
 mod tests;
 
 pub use director::Core;
+pub use home::{Home, place};

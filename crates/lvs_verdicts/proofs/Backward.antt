@@ -1,39 +1,31 @@
 -- What is judged legal from a line on is the text of what is left of a legal book and of the books behind it.
-use Rattle.std.proofs.Common.{◌≡◌, ℕ, zero, suc, ◌+◌, ◌-◌, ◌<◌, ◌≤◌, ◌==◌, Bool, true, false, not, ◌||◌, cond, List, [], ◌∷◌, ◌++◌, Option, Some, None, Result, Ok, Err, length, map, take, drop, set, slice_get, nat_lt, codes, refl, sym, ◌∙◌, ap, subst, arith, append_assoc, append-nil}
+use Rattle.std.proofs.Common.{◌≡◌, ℕ, ◌+◌, ◌-◌, ◌<◌, ◌≤◌, ◌==◌, Bool, true, false, not, ◌||◌, cond, List, [], ◌∷◌, ◌++◌, Option, Some, None, Result, Ok, Err, length, take, set, slice_get, nat_lt, codes, refl, sym, ◌∙◌, ap, subst, arith, append_assoc}
 use Rattle.std.specs.Prelude.{bytes_eq}
-use Rattle.std.specs.List.{list_all, slice_split, join_with_byte}
+use Rattle.std.specs.List.{list_all, join_with_byte}
 use Rattle.std.proofs.lemmas.Bool.{eqb-true}
 use Rattle.std.proofs.lemmas.Bool.Decides.{nat_tests}
 use Rattle.std.proofs.lemmas.Slice.Eq.{bytes_eq-Decides}
 use Rattle.std.proofs.lemmas.List.Splits.{length-slice_split, join_with_byte-slice_split}
-use Rattle.std.proofs.lemmas.List.{length-map}
 use Rattle.lvs_types.specs.declared.item.Item.{Item}
 use Rattle.lvs_types.specs.declared.reply.Reply.{Reply}
 use Rattle.lvs_types.specs.declared.book.Noted.{Noted}
 use Rattle.lvs_types.specs.declared.book.RoundBook.{RoundBook}
-use Rattle.lvs_types.specs.declared.book.RoundPlan.{RoundPlan}
 use Rattle.lvs_types.specs.declared.book.Shown.{Shown}
-use Rattle.lvs_types.specs.declared.book.ShownText.{ShownText}
-use Rattle.lvs_types.specs.declared.script.Round.{Round}
-use Rattle.lvs_types.specs.declared.report.ReportLine.{ReportLine}
-use Rattle.lvs_types.specs.declared.report.ReportLine.TheVariants as line
 use Rattle.lvs_types.specs.declared.report.Verdict.{Verdict}
 use Rattle.lvs_types.specs.declared.report.Verdict.TheVariants as verdict
 use Rattle.lvs_model.specs.State.{State}
 use Rattle.lvs_model.specs.Step.{step}
-use Rattle.lvs_model.specs.Plans.{plan}
-use Rattle.lvs_model.specs.Books.{IsSound, at_moment}
-use Rattle.lvs_model.specs.Legal.{IsLegal, AreLegalBooks}
+use Rattle.lvs_model.specs.Legal.{AreLegalBooks}
 use Rattle.lvs_model.specs.Listings.{text_of, shown_of, shown_listing}
 use Rattle.lvs_model.specs.Snapshots.{snapshot_of}
 use Rattle.lvs_model.specs.Lines.{is_feed}
-use Rattle.lvs_model.specs.Report.{is_printed, reply_text, act_line, acts_text, shown_name, shown_text, listings_text, head_text, books_text}
+use Rattle.lvs_model.specs.Report.{is_printed, acts_text, shown_name, shown_text, listings_text, books_text}
 use Rattle.lvs_model.specs.ReportReading.{line_of}
 use Rattle.lvs_model.specs.Refusals.{◌>>=◌}
-use Rattle.lvs_model.specs.Progress.{ReportText, Sizes, Queue, Progress, unreadable, unreadable_if, checked_text, head_words, act_words, listing_lines, run_silently, silent, clock_of, skipped, filled}
-use Rattle.lvs_model.specs.Checking.{checked_place, act_taken, next_taken, actor_taken, act_judged, is_used_up, acts_ended, round_ended, listing_opened, listing_judged, round_begun, head_said, head_judged, read_judged, line_judged, heads_ended, go_on, end_judged, last_judged, judged_from}
+use Rattle.lvs_model.specs.Progress.{ReportText, Sizes, Queue, Progress, unreadable, unreadable_if, checked_text, act_words, listing_lines, run_silently, silent, clock_of, skipped, filled}
+use Rattle.lvs_model.specs.Checking.{checked_place, act_taken, next_taken, actor_taken, act_judged, is_used_up, acts_ended, round_ended, listing_opened, listing_judged}
 use Rattle.lvs_verdicts.proofs.Walks.{queue_at, UsesUp, empty_by}
-use Rattle.lvs_verdicts.proofs.Silent.{Fills, fills}
+use Rattle.lvs_verdicts.proofs.Silent.{fills}
 
 -- RESULTS
 

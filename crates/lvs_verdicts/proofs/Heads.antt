@@ -1,25 +1,23 @@
 -- A head that passed begins a legal book.
-use Rattle.std.proofs.Common.{◌≡◌, ℕ, zero, suc, ◌+◌, Bool, true, false, cond, List, [], ◌∷◌, ◌++◌, Option, Some, None, Result, Ok, Err, length, map, slice_get, refl, sym, ◌∙◌, ap, subst, arith, append_assoc}
+use Rattle.std.proofs.Common.{◌≡◌, ℕ, zero, suc, ◌+◌, true, List, [], ◌∷◌, ◌++◌, Some, None, Ok, length, map, slice_get, refl, sym, ◌∙◌, ap, subst, arith, append_assoc}
 use Rattle.std.specs.Prelude.{bytes_eq}
 use Rattle.std.specs.List.{list_all}
 use Rattle.std.proofs.lemmas.List.{length-map}
 use Rattle.lvs_types.specs.declared.item.Item.{Item}
 use Rattle.lvs_types.specs.declared.book.Noted.{Noted}
 use Rattle.lvs_types.specs.declared.book.RoundBook.{RoundBook}
-use Rattle.lvs_types.specs.declared.book.RoundPlan.{RoundPlan}
 use Rattle.lvs_types.specs.declared.book.Shown.{Shown}
 use Rattle.lvs_types.specs.declared.script.Round.{Round}
 use Rattle.lvs_model.specs.State.{State}
 use Rattle.lvs_model.specs.Plans.{plan, numbers_from, items_of_worker, items_of_actor, items_of_lines}
-use Rattle.lvs_model.specs.Books.{IsSound, IsWhole, acts_of, at_moment}
+use Rattle.lvs_model.specs.Books.{at_moment}
 use Rattle.lvs_model.specs.Legal.{IsLegal, AreLegalBooks}
 use Rattle.lvs_model.specs.Listings.{shown_of}
-use Rattle.lvs_model.specs.Report.{acts_text, listings_text, head_text, round_text, books_text}
-use Rattle.lvs_model.specs.Refusals.{◌>>=◌}
-use Rattle.lvs_model.specs.Progress.{ReportText, Sizes, Queue, Progress, unreadable, head_words}
+use Rattle.lvs_model.specs.Report.{acts_text, listings_text, books_text}
+use Rattle.lvs_model.specs.Progress.{ReportText, Sizes, Queue, Progress, head_words}
 use Rattle.lvs_model.specs.Checking.{is_used_up, round_ended, round_begun, head_said, head_judged}
 use Rattle.lvs_verdicts.proofs.Walks.{queue_at, UsesUp, all_taken, none_taken, run_of}
-use Rattle.lvs_verdicts.proofs.Backward.{IsRest, Judged, then_ok, same_ok, readable, same_text, due_text, behind_acts, HasEnded, round_back}
+use Rattle.lvs_verdicts.proofs.Backward.{IsRest, then_ok, same_ok, readable, same_text, due_text, behind_acts, round_back}
 
 -- THE LISTS OF A ROUND
 

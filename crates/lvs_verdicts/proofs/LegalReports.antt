@@ -1,5 +1,5 @@
 -- A report that is judged legal is the text of legal books.
-use Rattle.std.proofs.Common.{◌≡◌, ℕ, ◌+◌, ◌≤◌, Bool, true, false, ◌&&◌, cond, List, [], ◌∷◌, ◌++◌, Option, Some, None, Result, Ok, Err, length, nat_le, refl, sym, ◌∙◌, ap, subst, arith}
+use Rattle.std.proofs.Common.{◌≡◌, ℕ, ◌+◌, ◌≤◌, Bool, true, false, cond, List, [], ◌∷◌, ◌++◌, Option, Some, None, Ok, Err, length, refl, sym, ◌∙◌, ap, subst, arith}
 use Rattle.std.specs.List.{slice_split, join_with_byte}
 use Rattle.std.proofs.lemmas.Bool.Decides.{nat_tests}
 use Rattle.std.proofs.lemmas.List.Splits.{join_with_byte-slice_split}
@@ -12,10 +12,9 @@ use Rattle.lvs_types.specs.declared.report.Verdict.TheVariants as verdict
 use Rattle.lvs_model.specs.State.{initial}
 use Rattle.lvs_model.specs.Legal.{AreLegalBooks}
 use Rattle.lvs_model.specs.Lines.{is_feed}
-use Rattle.lvs_model.specs.Report.{acts_text, books_text}
+use Rattle.lvs_model.specs.Report.{acts_text}
 use Rattle.lvs_model.specs.ReportReading.{line_of}
 use Rattle.lvs_model.specs.Progress.{ReportText, Sizes, Progress, checked_text}
-use Rattle.lvs_model.specs.Refusals.{◌>>=◌}
 use Rattle.lvs_model.specs.Checking.{round_ended, read_judged, line_judged, heads_ended, go_on, end_judged, last_judged, judged_from, are_sizes, sizes_of, nothing_judged, pieces_judged, judgement}
 use Rattle.lvs_verdicts.specs.LegalTexts.{IsTextOfLegalBooks}
 use Rattle.lvs_verdicts.proofs.Walks.{nothing_taken}

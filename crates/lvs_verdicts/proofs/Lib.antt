@@ -9,3 +9,4 @@ pub mod Passing
 pub mod Skipping
 pub mod Bounds
 pub mod Onward
+pub mod Named

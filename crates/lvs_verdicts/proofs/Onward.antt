@@ -1,11 +1,9 @@
 -- The text of legal books is judged legal.
-use Rattle.std.proofs.Common.{◌≡◌, ℕ, zero, suc, ◌+◌, ◌<◌, ◌≤◌, ◌^◌, ◌==◌, Bool, true, false, not, cond, List, [], ◌∷◌, ◌++◌, Option, Some, None, Result, Ok, Err, length, map, set, slice_get, decimal, codes, refl, sym, ◌∙◌, ap, subst, arith, append_assoc}
-use Rattle.std.specs.Prelude.{bytes_eq}
-use Rattle.std.specs.List.{list_all, slice_split, AllByRecursion}
+use Rattle.std.proofs.Common.{◌≡◌, ℕ, zero, suc, ◌+◌, ◌<◌, ◌≤◌, ◌^◌, Bool, true, false, cond, List, [], ◌∷◌, ◌++◌, Option, Some, None, Ok, length, map, set, slice_get, decimal, codes, refl, sym, ◌∙◌, ap, subst, arith, append_assoc}
+use Rattle.std.specs.List.{list_all, slice_split}
 use Rattle.std.proofs.lemmas.Bool.Decides.{nat_tests}
 use Rattle.std.proofs.lemmas.Slice.Eq.{bytes_eq-Decides}
 use Rattle.lvs_types.specs.declared.item.Item.{Item}
-use Rattle.lvs_types.specs.declared.reply.Reply.{Reply}
 use Rattle.lvs_types.specs.declared.book.Noted.{Noted}
 use Rattle.lvs_types.specs.declared.book.RoundBook.{RoundBook}
 use Rattle.lvs_types.specs.declared.book.Shown.{Shown}
@@ -14,16 +12,15 @@ use Rattle.lvs_types.specs.declared.script.Script.{Script}
 use Rattle.lvs_types.specs.declared.script.Round.{Round}
 use Rattle.lvs_types.specs.declared.report.ReportLine.{ReportLine}
 use Rattle.lvs_types.specs.declared.report.ReportLine.TheVariants as line
-use Rattle.lvs_types.specs.declared.report.Verdict.{Verdict}
 use Rattle.lvs_types.specs.declared.report.Verdict.TheVariants as verdict
 use Rattle.lvs_model.specs.State.{State, initial}
 use Rattle.lvs_model.specs.Step.{step}
 use Rattle.lvs_model.specs.Plans.{plan, items_of_lines, listings_of}
-use Rattle.lvs_model.specs.Books.{AreFrom, acts_of, at_moment}
+use Rattle.lvs_model.specs.Books.{acts_of, at_moment}
 use Rattle.lvs_model.specs.Legal.{IsLegal, AreLegalBooks}
 use Rattle.lvs_model.specs.Listings.{shown_of}
 use Rattle.lvs_model.specs.Lines.{is_feed}
-use Rattle.lvs_model.specs.Report.{is_printed, reply_text, act_line, acts_text, listings_text, head_text, round_text, books_text}
+use Rattle.lvs_model.specs.Report.{is_printed, act_line, acts_text, listings_text, head_text, round_text, books_text}
 use Rattle.lvs_model.specs.ReportReading.{line_of}
 use Rattle.lvs_model.specs.ReportLines.{is_named}
 use Rattle.lvs_model.specs.ScriptLimits.{AreMoments, items_in, IsWithinLimits}
@@ -35,7 +32,7 @@ use Rattle.lvs_report.proofs.PrintedLines.{head_line, head_line_own}
 use Rattle.lvs_report.proofs.ReadAgain.{split_line, unglue, head_is, head_avoids}
 use Rattle.lvs_verdicts.specs.LegalTexts.{IsTextOfLegalBooks, AreNamed}
 use Rattle.lvs_verdicts.proofs.Walks.{queue_at, UsesUp, AreAllOf, AreAllTaken, walk_of}
-use Rattle.lvs_verdicts.proofs.Backward.{Judged, behind_acts}
+use Rattle.lvs_verdicts.proofs.Backward.{Judged}
 use Rattle.lvs_verdicts.proofs.Heads.{whole_queue, count_lists}
 use Rattle.lvs_verdicts.proofs.Printed.{told}
 use Rattle.lvs_verdicts.proofs.Passing.{Goes, at_line, goes_line, goes_as, round_over, goes_listings, noted, goes_act}

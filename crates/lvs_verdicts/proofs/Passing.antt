@@ -1,5 +1,5 @@
 -- A line of the director's passes, and the report goes on behind it.
-use Rattle.std.proofs.Common.{◌≡◌, ℕ, zero, suc, ◌+◌, ◌-◌, ◌<◌, ◌≤◌, ◌^◌, ◌==◌, Bool, true, false, not, ◌||◌, cond, List, [], ◌∷◌, ◌++◌, Option, Some, None, Result, Ok, Err, length, take, drop, set, slice_get, nat_lt, decimal, codes, refl, sym, ◌∙◌, ap, subst, arith, append_assoc}
+use Rattle.std.proofs.Common.{◌≡◌, ℕ, ◌+◌, ◌-◌, ◌<◌, ◌^◌, ◌==◌, Bool, true, false, not, ◌||◌, cond, List, [], ◌∷◌, ◌++◌, Option, Some, None, Result, Ok, Err, length, set, slice_get, nat_lt, decimal, codes, refl, sym, ◌∙◌, ap, subst, arith, append_assoc}
 use Rattle.std.specs.Prelude.{bytes_eq, option_map}
 use Rattle.std.specs.List.{list_all, slice_split, AllByRecursion}
 use Rattle.std.proofs.lemmas.Bool.{eq-eqb}
@@ -9,15 +9,12 @@ use Rattle.std.proofs.lemmas.List.Splits.{length-slice_split}
 use Rattle.lvs_types.specs.declared.item.Item.{Item}
 use Rattle.lvs_types.specs.declared.reply.Reply.{Reply}
 use Rattle.lvs_types.specs.declared.book.Noted.{Noted}
-use Rattle.lvs_types.specs.declared.book.RoundBook.{RoundBook}
 use Rattle.lvs_types.specs.declared.book.Shown.{Shown}
 use Rattle.lvs_types.specs.declared.book.ShownText.{ShownText}
-use Rattle.lvs_types.specs.declared.script.Round.{Round}
 use Rattle.lvs_types.specs.declared.report.ReportLine.{ReportLine}
 use Rattle.lvs_types.specs.declared.report.ReportLine.TheVariants as line
 use Rattle.lvs_types.specs.declared.report.Verdict.{Verdict}
 use Rattle.lvs_types.specs.declared.report.Verdict.TheVariants as verdict
-use Rattle.lvs_model.specs.State.{State}
 use Rattle.lvs_model.specs.Step.{step}
 use Rattle.lvs_model.specs.Listings.{text_of, shown_of, shown_listing}
 use Rattle.lvs_model.specs.Snapshots.{snapshot_of}
@@ -26,10 +23,10 @@ use Rattle.lvs_model.specs.Report.{is_printed, reply_text, act_line, shown_name,
 use Rattle.lvs_model.specs.ReportReading.{LineRead, outside_listing, line_of}
 use Rattle.lvs_model.specs.ReportLines.{is_named}
 use Rattle.lvs_model.specs.Refusals.{◌>>=◌}
-use Rattle.lvs_model.specs.Progress.{ReportText, Sizes, Queue, Progress, unreadable, unreadable_if, checked_text, head_words, act_words, listing_lines, run_silently, silent, clock_of, skipped, filled}
-use Rattle.lvs_model.specs.Checking.{checked_place, act_taken, next_taken, actor_taken, act_judged, is_used_up, acts_ended, round_ended, listing_opened, listing_judged, round_begun, head_said, head_judged, read_judged, line_judged, heads_ended, go_on, end_judged, last_judged, judged_from}
+use Rattle.lvs_model.specs.Progress.{ReportText, Sizes, Queue, Progress, unreadable, unreadable_if, checked_text, act_words, listing_lines, clock_of, skipped, filled}
+use Rattle.lvs_model.specs.Checking.{checked_place, act_taken, actor_taken, act_judged, is_used_up, acts_ended, round_ended, listing_opened, listing_judged, read_judged, line_judged, go_on, judged_from}
 use Rattle.lvs_report.proofs.Avoids.{avoids, first_of_and, rest_of_and, reply_filled}
-use Rattle.lvs_report.proofs.PrintedLines.{head_line, head_line_own, act_body, act_line_own}
+use Rattle.lvs_report.proofs.PrintedLines.{act_body, act_line_own}
 use Rattle.lvs_report.proofs.ReadAgain.{split_line, unglue, act_is, act_avoids, pieces_avoid, first_line}
 use Rattle.lvs_verdicts.proofs.Walks.{queue_at}
 use Rattle.lvs_verdicts.proofs.Backward.{Judged, due_text, listing_is}

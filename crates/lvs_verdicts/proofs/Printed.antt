@@ -38,12 +38,12 @@ use Rattle.lvs_model.specs.Lookups.{find_service, servers_of, template_at, entry
 use Rattle.lvs_model.specs.Packets.{Packet, key_of, may_connect}
 use Rattle.lvs_model.specs.Binding.{try_binding, put_template, template_tried}
 use Rattle.lvs_model.specs.Persistence.{template_key, usable_server}
-use Rattle.lvs_model.specs.Forwarding.{forwarded, forward_known}
+use Rattle.lvs_model.specs.Forwarding.{forwarded}
 use Rattle.lvs_model.specs.Scheduling.{connect_to, enter, new_entry, connection_port, is_one_packet, with_cursor, new_template, replace_template, take_pick, pick_at, picked, schedule, renewed, use_template, persist_by, serve_packet, admit, connect}
 use Rattle.lvs_model.specs.declared.incoming.Standing.{Standing}
 use Rattle.lvs_model.specs.declared.incoming.Standing.TheVariants.{Reused, ServerGone, InUse}
-use Rattle.lvs_model.specs.Incoming.{end_entry, continue, arrive, take_back, incoming_packet, incoming_of, incoming_read, incoming, server_named, standing_of}
-use Rattle.lvs_model.specs.Outgoing.{answer_out, outgoing_of, outgoing_read, outgoing}
+use Rattle.lvs_model.specs.Incoming.{end_entry, continue, arrive, take_back, incoming_packet, incoming_of, incoming_read, server_named, standing_of}
+use Rattle.lvs_model.specs.Outgoing.{answer_out, outgoing_of, outgoing_read}
 use Rattle.lvs_model.specs.Edits.{edit, add_service_by, edit_service_by, remove_service_by, add_server_by, edit_server_by, remove_server_by, remove_server_at, start_master, start_backup, stop_master, stop_backup, is_service, is_server}
 use Rattle.lvs_model.specs.SyncRules.{accept}
 use Rattle.lvs_model.specs.Learning.{learn_by}

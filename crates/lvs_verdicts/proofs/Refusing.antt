@@ -1,5 +1,5 @@
 -- A line that fails is never refused by the verdict Legal.
-use Rattle.std.proofs.Common.{◌≡◌, ℕ, ◌+◌, ◌-◌, ◌==◌, Bool, true, false, not, ◌||◌, cond, List, [], ◌∷◌, Option, Some, None, Result, Ok, Err, length, take, set, slice_get, nat_lt, refl, subst}
+use Rattle.std.proofs.Common.{ℕ, ◌+◌, ◌-◌, ◌==◌, Bool, true, false, not, ◌||◌, cond, List, [], ◌∷◌, Option, Some, None, Result, Ok, Err, length, take, set, slice_get, nat_lt}
 use Rattle.std.specs.Prelude.{bytes_eq}
 use Rattle.std.specs.List.{list_all}
 use Rattle.lvs_types.specs.declared.book.Shown.{Shown}
@@ -15,7 +15,7 @@ use Rattle.lvs_model.specs.Report.{shown_name}
 use Rattle.lvs_model.specs.ReportReading.{line_of}
 use Rattle.lvs_model.specs.Refusals.{◌>>=◌}
 use Rattle.lvs_model.specs.Progress.{ReportText, Sizes, Queue, Progress, unreadable, unreadable_if, checked_text, head_words, act_words, listing_lines, run_silently, silent, clock_of, skipped, filled}
-use Rattle.lvs_model.specs.Checking.{checked_place, act_taken, next_taken, actor_taken, act_judged, is_used_up, acts_ended, round_ended, listing_opened, listing_judged, round_begun, head_said, head_judged, read_judged, line_judged}
+use Rattle.lvs_model.specs.Checking.{checked_place, act_taken, next_taken, actor_taken, act_judged, is_used_up, acts_ended, round_ended, listing_opened, round_begun, head_said, read_judged, line_judged}
 
 -- no refusal is Legal
 abbrev pub Refuses : {A : Type 0} → Result A Verdict → Type 0

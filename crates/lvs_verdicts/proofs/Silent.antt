@@ -1,11 +1,11 @@
 -- The clock's items at places without a line are acts that print nothing.
-use Rattle.std.proofs.Common.{◌≡◌, ℕ, zero, suc, ◌+◌, ◌≤◌, Bool, true, false, cond, List, [], ◌∷◌, ◌++◌, Some, Result, Ok, Err, length, take, drop, set, refl, sym, ◌∙◌, ap, subst, arith}
+use Rattle.std.proofs.Common.{◌≡◌, ℕ, zero, suc, ◌+◌, ◌≤◌, Bool, true, false, cond, List, [], ◌∷◌, ◌++◌, Result, Ok, Err, length, take, drop, set, refl, sym, ◌∙◌, subst, arith}
 use Rattle.lvs_types.specs.declared.item.Item.{Item}
 use Rattle.lvs_types.specs.declared.reply.Reply.{Reply}
 use Rattle.lvs_types.specs.declared.book.Noted.{Noted}
 use Rattle.lvs_model.specs.State.{State}
 use Rattle.lvs_model.specs.Step.{step}
-use Rattle.lvs_model.specs.Report.{is_printed, act_line, act_text, acts_text}
+use Rattle.lvs_model.specs.Report.{is_printed, act_line, acts_text}
 use Rattle.lvs_model.specs.Progress.{Queue, act_words, run_silently, clock_of, skipped}
 use Rattle.lvs_verdicts.proofs.Walks.{queue_at, UsesUp}
 

@@ -1,5 +1,5 @@
 -- An item of the clock's that changes nothing can be taken before the next line.
-use Rattle.std.proofs.Common.{◌≡◌, ℕ, zero, suc, ◌+◌, ◌-◌, ◌<◌, ◌≤◌, ◌==◌, Bool, true, false, not, ◌||◌, cond, List, [], ◌∷◌, Option, Some, None, Result, Ok, Err, length, take, drop, set, slice_get, nat_lt, refl, sym, ◌∙◌, ap, subst, arith}
+use Rattle.std.proofs.Common.{◌≡◌, ℕ, suc, ◌+◌, ◌-◌, ◌≤◌, ◌==◌, Bool, true, false, not, ◌||◌, cond, List, [], ◌∷◌, Option, Some, None, Result, Ok, Err, length, take, drop, set, slice_get, nat_lt, refl, ◌∙◌, ap, arith}
 use Rattle.std.specs.List.{list_all, slice_split}
 use Rattle.std.proofs.lemmas.Bool.Decides.{nat_tests}
 use Rattle.lvs_types.specs.declared.item.Item.{Item}
@@ -13,11 +13,11 @@ use Rattle.lvs_model.specs.Lines.{is_feed}
 use Rattle.lvs_model.specs.Report.{is_printed}
 use Rattle.lvs_model.specs.ReportReading.{line_of}
 use Rattle.lvs_model.specs.Refusals.{◌>>=◌}
-use Rattle.lvs_model.specs.Progress.{ReportText, Sizes, Queue, Progress, unreadable, unreadable_if, act_words, run_silently, silent, clock_of, skipped, filled}
-use Rattle.lvs_model.specs.Checking.{checked_place, actor_taken, act_judged, is_used_up, acts_ended, round_ended, listing_opened, listing_judged, head_said, head_judged, read_judged, line_judged, heads_ended, go_on, end_judged, last_judged, judged_from}
+use Rattle.lvs_model.specs.Progress.{ReportText, Sizes, Queue, Progress, unreadable_if, act_words, run_silently, silent, clock_of, skipped, filled}
+use Rattle.lvs_model.specs.Checking.{checked_place, actor_taken, act_judged, is_used_up, acts_ended, round_ended, listing_opened, head_said, read_judged, heads_ended, go_on, last_judged, judged_from}
 use Rattle.lvs_verdicts.proofs.Walks.{queue_at}
 use Rattle.lvs_verdicts.proofs.Backward.{Judged, then_ok}
-use Rattle.lvs_verdicts.proofs.Refusing.{Refuses, line_refuses}
+use Rattle.lvs_verdicts.proofs.Refusing.{line_refuses}
 use Rattle.lvs_verdicts.proofs.LegalReports.{gone_on}
 use Rattle.lvs_verdicts.proofs.Passing.{Goes, at_line}
 

@@ -1,0 +1,12 @@
+pub mod Timeless
+pub mod Histories
+pub mod Below
+pub mod Counts
+pub mod Playing
+pub mod Working
+pub mod Homes
+pub mod Seating
+pub mod Begins
+pub mod Dealing
+pub mod Ends
+pub mod Crossings
