@@ -51,7 +51,7 @@ fn a_run_with_threads_is_legal(rt: HostRuntime) -> Result<(), Fail> {
     judged.extend_from_slice(b"report\n")?;
     judged.extend_from_slice(&run.text)?;
     let verdict = served(alloc, &["check"], &judged, &[], &[])?;
-    assert_eq!(rt; verdict.text.as_slice(), b"legal\n");
+    assert_eq!(rt; verdict.text.as_slice(), b"legal\n".as_slice());
     Ok(())
 }
 
