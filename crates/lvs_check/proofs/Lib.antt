@@ -8,3 +8,4 @@ pub mod LineLemmas
 pub mod RangeLemmas
 pub mod StepLemmas
 pub mod WordLemmas
+pub mod LegalLaws

@@ -53,6 +53,16 @@ fn judge(
     walk.finish(alloc, number, rest)
 }
 
+/// The judgement of a report.
+fn judge_report(alloc: Global, script: &Script, report: &[u8]) -> Result<Verdict, NoMemory>
+    requires within { IsWithinLimits script.now.rounds }
+    ensures { IfOk result (λ verdict. verdict ≡ judgement script.now report.now) }
+{
+    let sizes = first_sizes(alloc, report)?;
+    let mut walk = begin(alloc, script, sizes)?;
+    judge(alloc, sizes, &mut walk, report)
+}
+
 /// The verdict on a report of a script, which is within the limits of scripts: legal, or the first
 /// line that fails, from 1, and where its text isn't the director's both texts (this project's
 /// profile). A legal report is the text of legal books of the script, and the text of such books is
@@ -63,7 +73,5 @@ pub fn check(alloc: Global, script: &Script, report: &[u8]) -> Result<Verdict, N
     ensures legal { IfOk result (λ said. said ≡ verdict.Legal → IsTextOfLegalBooks script.now report.now) }
     ensures text { AreNamed script.now.rounds → IsTextOfLegalBooks script.now report.now → IfOk result (λ said. said ≡ verdict.Legal) }
 {
-    let sizes = first_sizes(alloc, report)?;
-    let mut walk = begin(alloc, script, sizes)?;
-    judge(alloc, sizes, &mut walk, report)
+    judge_report(alloc, script, report)
 }
