@@ -1,13 +1,12 @@
 -- A history isn't longer than the plan.
-use Rattle.std.proofs.Common.{◌≡◌, ℕ, zero, suc, ◌+◌, ◌<◌, ◌≤◌, List, [], ◌∷◌, length, get_or, refl, sym, ap, ◌∙◌, subst, arith, cond, Option, Some, None}
-use mathlib.Core.Bool.{Bool, true, false, ◌||◌}
+use Rattle.std.proofs.Common.{◌≡◌, ℕ, zero, suc, ◌+◌, ◌<◌, ◌≤◌, List, [], ◌∷◌, length, get_or, refl, ap, ◌∙◌, subst, arith, cond}
+use mathlib.Core.Bool.{Bool, true, false}
 use Rattle.lvs_book.specs.Lanes.{stands}
 use Rattle.lvs_types.specs.declared.item.Item.{Item}
 use Rattle.lvs_types.specs.declared.book.Noted.{Noted}
 use Rattle.lvs_model.specs.Books.{AreFrom}
 use Rattle.lvs_model.specs.Buckets.{home}
 use Rattle.lvs_shared.specs.declared.origin.Act.{Act}
-use Rattle.lvs_shared.specs.declared.origin.Opened.{Opened}
 use Rattle.lvs_shared.specs.Openings.{count_items}
 use Rattle.lvs_shared.specs.Acts.{notes_of, lane_acts}
 use Rattle.lvs_shared.specs.Played.{HaveLanes}

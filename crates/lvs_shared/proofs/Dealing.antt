@@ -1,5 +1,5 @@
 -- How the passes of a new book are dealt out.
-use Rattle.std.proofs.Common.{◌≡◌, ℕ, zero, suc, ◌+◌, ◌<◌, ◌≤◌, ◌^◌, List, [], ◌∷◌, ◌++◌, length, drop, get_or, refl, sym, ap, ◌∙◌, subst, arith, append_assoc}
+use Rattle.std.proofs.Common.{◌≡◌, ℕ, zero, suc, ◌+◌, ◌<◌, ◌≤◌, List, [], ◌∷◌, ◌++◌, length, get_or, refl, sym, ap, ◌∙◌, subst, arith, append_assoc}
 use mathlib.Core.List.{reverse}
 use Rattle.std.proofs.lemmas.List.{reverse-append}
 use Rattle.atomic_table.specs.Seated.{TableId}
@@ -11,7 +11,7 @@ use Rattle.lvs_bucket.specs.Seen.{BucketSeen}
 use Rattle.lvs_core.specs.Agree.{AreBuckets, IsBucket}
 use Rattle.lvs_shared.specs.declared.origin.Act.{Act}
 use Rattle.lvs_shared.specs.declared.origin.Opened.{Opened}
-use Rattle.lvs_shared.specs.Openings.{begun, list_of, count_items, IsOpened}
+use Rattle.lvs_shared.specs.Openings.{begun, list_of, IsOpened}
 use Rattle.lvs_shared.specs.Acts.{made}
 use Rattle.lvs_shared.specs.Locked.{IsHome}
 use Rattle.lvs_shared.specs.Seats.{SeatSeen, IsSeat, new_pass, new_seat, new_seats}

@@ -1,6 +1,6 @@
 -- What a closed book says, from what the passes and the board tell.
-use Rattle.std.proofs.Common.{◌≡◌, ℕ, zero, suc, ◌+◌, ◌-◌, ◌<◌, ◌≤◌, ◌==◌, List, [], ◌∷◌, ◌++◌, map, length, drop, get_or, refl, sym, ap, ◌∙◌, subst, arith, append_assoc, cond, eqb, nat_eq, eq-eqb, ne_eqb, Option, Some, None, slice_get}
-use mathlib.Core.Bool.{Bool, true, false, ◌||◌}
+use Rattle.std.proofs.Common.{◌≡◌, ℕ, zero, suc, ◌+◌, ◌<◌, ◌≤◌, ◌==◌, List, [], ◌∷◌, ◌++◌, length, drop, get_or, refl, sym, ap, ◌∙◌, subst, arith, append_assoc, cond, eq-eqb, ne_eqb, Option, Some, None, slice_get}
+use mathlib.Core.Bool.{Bool, true, false}
 use mathlib.Core.Logic.{dite}
 use native.Mathlib.Decide.{ℕ_discrete}
 use Rattle.atomic_table.specs.Seated.{TableId}
@@ -13,22 +13,22 @@ use Rattle.lvs_types.specs.declared.book.RoundBook.{RoundBook}
 use Rattle.lvs_model.specs.State.{State}
 use Rattle.lvs_model.specs.Step.{run}
 use Rattle.lvs_model.specs.Counted.{IsCounted}
-use Rattle.lvs_model.specs.Buckets.{home, entries_of}
+use Rattle.lvs_model.specs.Buckets.{home}
 use Rattle.lvs_model.specs.Books as books
 use Rattle.lvs_bucket.specs.Seen.{BucketSeen}
 use Rattle.lvs_board.specs.Seen.{BoardSeen}
 use Rattle.lvs_board.specs.Stands.{StandsFor}
-use Rattle.lvs_core.specs.Agree.{Agree, AreBuckets, IsBucket}
+use Rattle.lvs_core.specs.Agree.{Agree, AreBuckets}
 use Rattle.lvs_shared.specs.declared.origin.Act.{Act}
 use Rattle.lvs_shared.specs.declared.origin.Opened.{Opened}
 use Rattle.lvs_shared.specs.Openings.{begun, list_of, IsOpened}
-use Rattle.lvs_shared.specs.Acts.{notes_of, items_of, replies_of, lane_acts, lanes_of, left, made}
+use Rattle.lvs_shared.specs.Acts.{notes_of, items_of, replies_of, lane_acts, left, made}
 use Rattle.lvs_shared.specs.Played.{HaveLanes, Kept, PlayedSeen, IsLeft}
 use Rattle.lvs_shared.specs.Locked.{IsHome}
 use Rattle.lvs_shared.specs.Seats.{SeatSeen, IsSeat, AreSeats, AreAtEnd, AreSeated, passes_in}
 use Rattle.lvs_shared.specs.Rounds.{AreHomes, HaveNumbers}
 use Rattle.lvs_shared.proofs.Below.{home_below}
-use Rattle.lvs_shared.proofs.Histories.{IsBelow, own_stands, own_other, length_snoc, map_snoc, notes_length}
+use Rattle.lvs_shared.proofs.Histories.{own_stands, own_other, map_snoc, notes_length}
 use Rattle.lvs_shared.proofs.Counts.{from_le}
 
 abbrev pub names : Act → List ℕ

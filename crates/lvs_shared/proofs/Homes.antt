@@ -1,7 +1,6 @@
 -- What lies behind a lock, when one act is added.
-use Rattle.std.proofs.Common.{◌≡◌, ℕ, List, refl, sym, ap, ◌∙◌, subst}
+use Rattle.std.proofs.Common.{◌≡◌, ℕ, sym, ap, ◌∙◌, subst}
 use Rattle.lvs_book.specs.Passes.{Held, with_act}
-use Rattle.lvs_types.specs.declared.entry.Entry.{Entry}
 use Rattle.lvs_types.specs.declared.bucket.Change.{Change}
 use Rattle.lvs_model.specs.Buckets.{changed_by, Fits}
 use Rattle.lvs_bucket.specs.Seen.{BucketSeen}

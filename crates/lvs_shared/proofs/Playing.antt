@@ -1,7 +1,5 @@
 -- The value in the book, when one act is added.
-use Rattle.std.proofs.Common.{◌≡◌, ℕ, ◌+◌, ◌<◌, ◌≤◌, ◌^◌, List, [], ◌∷◌, ◌++◌, length, drop, refl, sym, ap, ◌∙◌, subst, arith, Option, Some, None}
-use Rattle.lvs_types.specs.declared.item.Item.{Item}
-use Rattle.lvs_types.specs.declared.entry.Entry.{Entry}
+use Rattle.std.proofs.Common.{◌≡◌, ℕ, ◌+◌, ◌<◌, ◌^◌, List, [], ◌∷◌, ◌++◌, length, refl, sym, ap, ◌∙◌, subst, arith, Option, Some, None}
 use Rattle.lvs_types.specs.declared.bucket.Change.{Change}
 use Rattle.lvs_types.specs.declared.bucket.Change.TheVariants as changes
 use Rattle.lvs_types.specs.declared.bucket.Found.{Found}
@@ -9,7 +7,7 @@ use Rattle.lvs_types.specs.declared.book.Noted.{Noted}
 use Rattle.lvs_types.specs.declared.book.Placed.{Placed}
 use Rattle.lvs_model.specs.State.{State}
 use Rattle.lvs_model.specs.Step.{step, IsInRange}
-use Rattle.lvs_model.specs.Buckets.{home, look_in, look_at, look_up, entries_of, Carries, CarriesAt, Fits}
+use Rattle.lvs_model.specs.Buckets.{home, look_in, look_at, look_up, Carries, CarriesAt, Fits}
 use Rattle.lvs_model.specs.Counted.{IsCounted}
 use Rattle.lvs_board.specs.Seen.{BoardSeen, noted}
 use Rattle.lvs_board.specs.Stands.{StandsFor}
@@ -17,7 +15,7 @@ use Rattle.lvs_shared.specs.declared.origin.Act.{Act}
 use Rattle.lvs_shared.specs.declared.origin.Opened.{Opened}
 use Rattle.lvs_shared.specs.Openings.{begun, IsTimeless}
 use Rattle.lvs_shared.specs.Acts.{lane_acts, act_of, acts_of, left, made}
-use Rattle.lvs_shared.specs.Played.{Kept, PlayedSeen, seen_of, IsPlayed, MayPlay, found_at, FitsAt, FitsFor, Notes}
+use Rattle.lvs_shared.specs.Played.{Kept, seen_of, IsPlayed, MayPlay, found_at, FitsAt, FitsFor, Notes}
 use Rattle.lvs_shared.proofs.Timeless.{planned_timeless, timeless_range}
 use Rattle.lvs_shared.proofs.Below.{home_below}
 use Rattle.lvs_shared.proofs.Histories.{IsBelow, IsMore, acts_snoc, acts_length, length_snoc, lanes_snoc, left_snoc, planned_by, kept_more}

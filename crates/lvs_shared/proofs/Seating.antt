@@ -1,15 +1,13 @@
 -- A seat, when one act is added.
-use Rattle.std.proofs.Common.{◌≡◌, ℕ, zero, suc, ◌+◌, ◌<◌, ◌^◌, List, [], ◌∷◌, length, drop, refl, sym, ap, ◌∙◌, subst, arith}
+use Rattle.std.proofs.Common.{◌≡◌, ℕ, zero, suc, ◌+◌, ◌<◌, List, [], ◌∷◌, length, drop, sym, ap, ◌∙◌, subst, arith}
 use Rattle.atomic_table.specs.Seated.{TableId}
 use Rattle.lvs_book.specs.Passes.{Held, with_act}
 use Rattle.lvs_types.specs.declared.item.Item.{Item}
-use Rattle.lvs_types.specs.declared.book.Placed.{Placed}
 use Rattle.lvs_shared.specs.declared.origin.Act.{Act}
 use Rattle.lvs_shared.specs.declared.origin.Opened.{Opened}
 use Rattle.lvs_shared.specs.Openings.{begun, list_of}
-use Rattle.lvs_shared.specs.Played.{IsNext, Notes}
 use Rattle.lvs_shared.specs.Works.{IsOwn}
-use Rattle.lvs_shared.specs.Seats.{SeatSeen, IsSeat, IsDone}
+use Rattle.lvs_shared.specs.Seats.{SeatSeen, IsSeat}
 use Rattle.lvs_shared.proofs.Histories.{length_snoc}
 
 drop_next : (n : ℕ) (l : List Item) (x : Item) (xs : List Item) → drop n l ≡ x ∷ xs → drop (suc n) l ≡ xs

@@ -1,8 +1,6 @@
 -- A work may play its item, and what is then said of it.
-use Rattle.std.proofs.Common.{◌≡◌, ℕ, ◌+◌, ◌<◌, List, [], ◌∷◌, ◌++◌, length, refl, sym, ap, ◌∙◌, subst, arith, cond, eqb, eq-eqb, ne_eqb, Option, Some, None, IfSome}
-use mathlib.Core.Bool.{Bool, true, false, ◌||◌}
-use mathlib.Core.Logic.{dite}
-use native.Mathlib.Decide.{ℕ_discrete}
+use Rattle.std.proofs.Common.{◌≡◌, ℕ, ◌+◌, ◌<◌, List, [], ◌∷◌, refl, sym, ap, ◌∙◌, subst, arith, cond, eqb, eq-eqb, ne_eqb, Option, Some, IfSome}
+use mathlib.Core.Bool.{Bool, true}
 use Rattle.lvs_book.specs.Lanes.{stands}
 use Rattle.lvs_book.specs.Passes.{Held}
 use Rattle.lvs_types.specs.declared.bucket.Change.{Change}
@@ -15,7 +13,7 @@ use Rattle.lvs_shared.specs.declared.origin.Opened.{Opened}
 use Rattle.lvs_shared.specs.Openings.{begun}
 use Rattle.lvs_shared.specs.Acts.{lane_acts, lanes_at, lanes_of, made}
 use Rattle.lvs_shared.specs.Played.{PlayedSeen, IsNext, MayPlay, found_at, found_for, FitsAt, FitsFor, Notes}
-use Rattle.lvs_shared.specs.Works.{IsOwn, IsAlone, IsPaired, IsFound, PairedSeen, IsPair, PairedFirst}
+use Rattle.lvs_shared.specs.Works.{IsOwn, IsAlone, IsPaired, IsFound, PairedSeen, PairedFirst}
 
 here : (k : ℕ) (ks : List ℕ) → stands k (k ∷ ks) ≡ true
 here k ks = grind arith

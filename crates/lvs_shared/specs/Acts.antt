@@ -1,5 +1,5 @@
 -- The acts of a book as a list: their lanes, the state that they leave, and what they make of a bucket.
-use Rattle.std.specs.Prelude.{◌≡◌, ℕ, ◌+◌, List, [], ◌∷◌, Option, Some, None, map}
+use Rattle.std.specs.Prelude.{ℕ, ◌+◌, List, [], ◌∷◌, Option, Some, None, map}
 use Rattle.lvs_book.specs.Lanes.{naming}
 use Rattle.lvs_types.specs.declared.item.Item.{Item}
 use Rattle.lvs_types.specs.declared.reply.Reply.{Reply}

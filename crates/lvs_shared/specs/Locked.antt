@@ -1,5 +1,5 @@
 -- What lies behind a bucket's lock.
-use Rattle.std.specs.Prelude.{◌≡◌, ℕ, ◌<◌, []}
+use Rattle.std.specs.Prelude.{◌≡◌, ◌<◌, []}
 use Rattle.lvs_book.specs.Passes.{Held, BookIs}
 use Rattle.lvs_bucket.specs.Seen.{BucketSeen}
 use Rattle.lvs_shared.specs.declared.origin.Act.{Act}

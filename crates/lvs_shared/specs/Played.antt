@@ -7,7 +7,6 @@ use Rattle.lvs_types.specs.declared.bucket.Change.TheVariants as changes
 use Rattle.lvs_types.specs.declared.bucket.Found.{Found}
 use Rattle.lvs_types.specs.declared.bucket.Found.TheVariants as found
 use Rattle.lvs_types.specs.declared.book.Placed.{Placed}
-use Rattle.lvs_model.specs.State.{State}
 use Rattle.lvs_model.specs.Step.{run}
 use Rattle.lvs_model.specs.Books.{AreFrom}
 use Rattle.lvs_model.specs.Buckets.{home, entries_of, look_in, Fits}

@@ -1,5 +1,5 @@
 -- The two works of a round: an item of no bucket, and an item of one.
-use Rattle.std.specs.Prelude.{◌≡◌, ℕ, ◌+◌, ◌<◌, Option, Some, None, IfSome, length}
+use Rattle.std.specs.Prelude.{◌≡◌, ◌+◌, ◌<◌, Option, Some, None, IfSome}
 use Rattle.lvs_book.specs.Passes.{Held}
 use Rattle.lvs_types.specs.declared.book.Placed.{Placed}
 use Rattle.lvs_types.specs.declared.bucket.Change.{Change}

@@ -1,7 +1,7 @@
-use Rattle.std.proofs.Common.{◌≡◌, ◌+◌, suc, rules, arith, length, ◌∷◌, [], ◌++◌, List, ap, sym, ◌∙◌, append_assoc, subst, refl}
+use Rattle.std.proofs.Common.{◌+◌, rules, arith, length, ◌∷◌, sym, ◌∙◌, subst, refl}
 use mathlib.Core.List.{reverse}
 use Rattle.lvs_shared.specs.Openings.{begun}
-use Rattle.lvs_shared.specs.Seats.{SeatSeen, IsSeat, new_seat}
+use Rattle.lvs_shared.specs.Seats.{SeatSeen, IsSeat}
 use Rattle.lvs_shared.proofs.Dealing.{last_pass, none_left, is_new_seat, seats_step, seat_is, cut_step, cut_length}
 use Rattle.lvs_shared.proofs.beginning.seated.Goals as goal
 

@@ -1,4 +1,4 @@
-use Rattle.std.proofs.Common.{◌≡◌, ◌+◌, ◌≤◌, suc, rules, arith, length, ◌∷◌, [], ◌++◌, List, ap, sym, ◌∙◌}
+use Rattle.std.proofs.Common.{rules, arith, length, ap}
 use Rattle.lvs_book.specs.Passes.{Held}
 use Rattle.lvs_shared.specs.declared.origin.Act.{Act}
 use Rattle.lvs_shared.specs.declared.origin.Opened.{Opened}

@@ -1,4 +1,4 @@
-use Rattle.std.proofs.Common.{◌≡◌, ◌≤◌, ◌+◌, ◌++◌, List, length, vec_len, vec_capacity}
+use Rattle.std.proofs.Common.{◌≡◌, ◌≤◌, ◌+◌, length, vec_len, vec_capacity}
 use Rattle.lvs_book.specs.Passes.{opened}
 use Rattle.lvs_core.specs.Agree.{AreBuckets}
 use Rattle.lvs_shared.specs.Openings.{begun}

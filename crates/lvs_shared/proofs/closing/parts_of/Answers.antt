@@ -1,14 +1,9 @@
-use Rattle.std.proofs.Common.{◌≡◌, ◌∙◌, ◌+◌, ◌∷◌, ◌++◌, [], suc, length, sym, ap, subst, refl, rules, arith}
+use Rattle.std.proofs.Common.{◌≡◌, ◌∙◌, ◌∷◌, suc, length, ap, subst, rules, arith}
 use Rattle.std.specs.Vec.Iter.{into_iter_items}
-use Rattle.lvs_shared.specs.Locked.{ChamberSeen}
-use Rattle.lvs_bucket.specs.Seen.{BucketSeen}
-use Rattle.lvs_shared.specs.Rounds.{AreFrom, AreHomes}
-use Rattle.lvs_book.specs.Passes.{Held}
-use Rattle.lvs_shared.specs.declared.origin.Act.{Act}
-use Rattle.lvs_shared.specs.declared.origin.Opened.{Opened}
+use Rattle.lvs_shared.specs.Rounds.{AreFrom}
 use Rattle.lvs_shared.proofs.Histories.{length_snoc}
 use Rattle.lvs_shared.proofs.Ends.{homes_push}
-use Rattle.std.proofs.Common.{List, ℕ}
+use Rattle.std.proofs.Common.{ℕ}
 use Rattle.lvs_shared.proofs.closing.parts_of.Goals as goal
 
 pub loop-chamber-preserved : goal.loop-chamber-preserved

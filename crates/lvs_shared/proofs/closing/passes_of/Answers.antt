@@ -1,6 +1,6 @@
-use Rattle.std.proofs.Common.{◌≡◌, ◌∙◌, ◌+◌, ◌∷◌, ◌++◌, [], suc, length, sym, ap, subst, refl, rules, arith, append_assoc, List, ℕ}
+use Rattle.std.proofs.Common.{◌≡◌, ◌∙◌, ◌∷◌, ◌++◌, [], suc, length, sym, ap, subst, rules, arith, append_assoc, List, ℕ}
 use Rattle.std.specs.Vec.Iter.{into_iter_items}
-use Rattle.lvs_shared.specs.Seats.{SeatSeen, AreSeats, AreSeated}
+use Rattle.lvs_shared.specs.Seats.{SeatSeen, AreSeats}
 use Rattle.lvs_shared.proofs.Histories.{length_snoc}
 use Rattle.lvs_shared.proofs.Ends.{seated_snoc, passes_push}
 use Rattle.lvs_shared.proofs.closing.passes_of.Goals as goal

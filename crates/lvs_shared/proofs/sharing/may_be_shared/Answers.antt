@@ -1,4 +1,4 @@
-use denote.Param.Send.{IsSend, IsSync, sendable}
+use denote.Param.Send.{sendable}
 use Rattle.std.proofs.Crossing.{crosses}
 use Rattle.lvs_book.proofs.book.Book.TheSendSync as book
 use Rattle.lvs_shared.proofs.chamber.Chamber.TheSendSync as chamber

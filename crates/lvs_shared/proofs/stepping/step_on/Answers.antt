@@ -1,4 +1,4 @@
-use Rattle.std.proofs.Common.{◌≡◌, ◌∙◌, ◌++◌, ◌∷◌, [], refl, sym, ap, rules, arith, ◌+◌}
+use Rattle.std.proofs.Common.{◌∙◌, ◌∷◌, [], refl, ap, ◌+◌}
 use mathlib.Core.List.{reverse}
 use Rattle.std.proofs.lemmas.List.{reverse-append}
 use Rattle.lvs_shared.proofs.Seating.{seat_next, seat_more}

@@ -1,4 +1,4 @@
-use Rattle.std.proofs.Common.{◌≡◌, subst, rules}
+use Rattle.std.proofs.Common.{rules}
 use Rattle.lvs_shared.proofs.Working.{alone_may}
 use Rattle.lvs_shared.proofs.alone.AloneWorkPlayed.work.Goals as goal
 

@@ -1,4 +1,4 @@
-use Rattle.std.proofs.Common.{◌≡◌, ◌∙◌, ap}
+use Rattle.std.proofs.Common.{◌∙◌, ap}
 use Rattle.lvs_book.specs.Passes.{Held}
 use Rattle.lvs_model.specs.Buckets.{changed_by}
 use Rattle.lvs_shared.specs.declared.origin.Act.{Act}

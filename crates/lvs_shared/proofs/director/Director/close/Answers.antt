@@ -1,17 +1,16 @@
-use Rattle.std.proofs.Common.{◌≡◌, ◌∙◌, ◌+◌, ◌≤◌, ◌∷◌, ◌++◌, [], length, sym, ap, subst, refl, rules, arith, List, ℕ}
+use Rattle.std.proofs.Common.{◌≡◌, ◌∙◌, ◌+◌, ◌≤◌, ◌++◌, [], length, sym, ap, subst, rules, arith, List, ℕ}
 use Rattle.atomic_table.specs.Seated.{TableId}
 use Rattle.lvs_book.specs.Passes.{Held, AreAll, Tells}
 use Rattle.lvs_types.specs.declared.book.Noted.{Noted}
 use Rattle.lvs_types.specs.declared.book.RoundBook.{RoundBook}
-use Rattle.lvs_model.specs.State.{State}
-use Rattle.lvs_model.specs.Books.{IsSound, IsWhole}
+use Rattle.lvs_model.specs.Books.{IsWhole}
 use Rattle.lvs_shared.specs.declared.origin.Act.{Act}
 use Rattle.lvs_shared.specs.declared.origin.Opened.{Opened}
 use Rattle.lvs_shared.specs.Openings.{begun}
 use Rattle.lvs_shared.specs.Acts.{left}
 use Rattle.lvs_shared.specs.Seats.{AreAtEnd, AreSeats, passes_in}
 use Rattle.lvs_shared.specs.Rounds.{DirectorSeen, HaveNumbers}
-use Rattle.lvs_shared.proofs.Ends.{names, are_all, seats_count, closed_agree, closed_steps, closed_sound_as, closed_counts, closed_whole}
+use Rattle.lvs_shared.proofs.Ends.{names, are_all, seats_count, closed_agree, closed_sound_as, closed_counts, closed_whole}
 use Rattle.lvs_shared.proofs.director.Director.close.Goals as goal
 
 pub close-requires : goal.close-requires
