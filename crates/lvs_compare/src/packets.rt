@@ -1,5 +1,5 @@
 //! Lines of packets, good and bad.
-ghost use Rattle.std.specs.Prelude.{◌≤◌, ◌<◌, length};
+ghost use Rattle.std.specs.Prelude.{◌≡◌, ◌≤◌, ◌<◌, length};
 
 use crate::chance::Chance;
 use crate::network::{client, client_port, destination, port, server, server_port};

@@ -1,37 +1,34 @@
 //! The actors of a round, each stepping its seat to the end.
 ghost use Rattle.std.specs.Prelude.{◌≡◌, length, true, IfOk, OnOk};
-ghost use Rattle.lvs_shared.specs.Openings.{begun};
 ghost use Rattle.lvs_shared.specs.Seats.{AreSeats, AreAtEnd};
 
-use lvs_book::Book;
 use lvs_outside::Gate;
-use lvs_shared::{Chamber, Director, Played, RoundName, Seat, Stepped, step_on};
+use lvs_shared::{Director, RoundName, Seat, Stepped};
 use lvs_types::NoMemory;
 use std::alloc::Global;
-use std::sync::{Mutex, Wait};
+use std::sync::Wait;
 use std::thread;
 use std::thread::Threads;
 
-/// Steps a seat until its list is at its end, or there is no memory.
-fn work<N: RoundName, R: Wait, G: Gate>(
-    rt: &R,
-    alloc: Global,
-    book: &Book<Played>,
-    locks: &[Mutex<Chamber<N>>],
-    mut seat: Seat<N>,
-    gate: &G,
-) -> Seat<N>
-    requires book { book.now.id ≡ N.book.id }
-    requires locks { length locks.now ≡ (begun N.book.origin).buckets }
-    ensures { result.actor ≡ seat.actor }
-{
-    for _ in rt.forever() {
-        match step_on(rt, alloc, book, locks, &mut seat, gate) {
-            Ok(Stepped::Done(_)) => {}
-            Ok(Stepped::Finished) | Err(_) => return seat,
+/// What all actors step at once. Threads see of a director no more than this.
+pub(crate) trait Works<N: RoundName, R: Wait, G: Gate> {
+    /// Steps a seat until its list is at its end, or there is no memory.
+    fn work(&self, rt: &R, alloc: Global, seat: Seat<N>, gate: &G) -> Seat<N>
+        ensures { result.actor ≡ seat.actor };
+}
+
+impl<N: RoundName, R: Wait, G: Gate> Works<N, R, G> for Director<N> {
+    fn work(&self, rt: &R, alloc: Global, mut seat: Seat<N>, gate: &G) -> Seat<N>
+        ensures { result.actor ≡ seat.actor }
+    {
+        for _ in rt.forever() {
+            match self.step(rt, alloc, &mut seat, gate) {
+                Ok(Stepped::Done(_)) => {}
+                Ok(Stepped::Finished) | Err(_) => return seat,
+            }
         }
+        unreachable!()
     }
-    unreachable!()
 }
 
 /// All actors at once: a thread each, or one after another where no thread can be made.
@@ -39,22 +36,21 @@ pub(crate) fn work_at_once<
     N: RoundName + Send + Sync,
     R: Threads + Wait + Sync,
     G: Gate + Sync,
+    D: Works<N, R, G> + Sync,
 >(
     rt: &R,
     alloc: Global,
-    director: &Director<N>,
+    director: &D,
     seats: Vec<Seat<N>>,
     gate: &G,
 ) -> Result<Vec<Seat<N>>, NoMemory>
     requires order { AreSeats 0 (length N.book.origin.plan.lists) seats.items }
     ensures order { IfOk result (λ v. AreSeats 0 (length N.book.origin.plan.lists) v.items) }
 {
-    let (book, locks) = director.parts();
-    let step = |seat: Seat<N>| -> Seat<N>
-        requires { (book.now.id ≡ N.book.id) × (length locks.now ≡ (begun N.book.origin).buckets) }
+    let work = |seat: Seat<N>| -> Seat<N>
         ensures { result.actor ≡ seat.actor }
-    { work(rt, alloc, book, locks, seat, gate) };
-    Ok(thread::map_vec(rt, seats, &step)?)
+    { director.work(rt, alloc, seat, gate) };
+    Ok(thread::map_vec(rt, seats, &work)?)
 }
 
 /// Whether the list of each seat is used up.

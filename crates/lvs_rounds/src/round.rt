@@ -31,7 +31,7 @@ fn play_named<N: RoundName + Send + Sync, R: Threads + Wait + Sync, G: Gate + Sy
     let Ok((director, seats)) = Director::<N>::begin(alloc, opening) else {
         return Err(NoMemory);
     };
-    let seats = work_at_once(rt, alloc, &director, seats, gate)?;
+    let seats = work_at_once::<N, R, G, Director<N>>(rt, alloc, &director, seats, gate)?;
     if !are_at_end(&seats) {
         return Err(NoMemory);
     }
