@@ -1,0 +1,29 @@
+-- How far the backup of a pair has come.
+use Rattle.std.specs.Prelude.{◌≡◌, ℕ, List, ◌++◌, take}
+use Rattle.lvs_types.specs.declared.item.Item.{Item}
+use Rattle.lvs_types.specs.declared.pair.PairEnd.{PairEnd}
+use Rattle.lvs_types.specs.declared.pair.PairEnd.TheVariants.{Finished, NoMemory}
+use Rattle.lvs_model.specs.State.{State}
+use Rattle.lvs_pair.specs.Pairing.{learnt_of}
+use Rattle.lvs_pair.specs.declared.backup.Backup.{Backup}
+
+-- from this state it has learnt these items
+abbrev pub HasLearnt : State → List Item → Backup → Type 0
+HasLearnt s items b = (b.learnt.items, b.core.state) ≡ learnt_of s items
+
+-- from this state it has learnt the first of these items
+pub record HasLearntSome (s : State) (items : List Item) (b : Backup) : Type 0 where
+  pub count : ℕ
+  pub learnt : HasLearnt s (take count items) b
+
+abbrev pub LearntBy : PairEnd → State → List Item → Backup → Type 0
+LearntBy Finished s items b = HasLearnt s items b
+LearntBy NoMemory s items b = HasLearntSome s items b
+
+-- after all that the old one has learnt, the new one has learnt these items too
+abbrev pub Learns : Backup → Backup → List Item → Type 0
+Learns old new items = (s : State) (before : List Item) → HasLearnt s before old → HasLearnt s (before ++ items) new
+
+-- or the first of them
+abbrev pub LearnsSome : Backup → Backup → List Item → Type 0
+LearnsSome old new items = (s : State) (before : List Item) → HasLearnt s before old → HasLearntSome s (before ++ items) new

@@ -1,0 +1,16 @@
+//! A master, a backup and the takeover: messages go from one director to another through a relay.
+#![tactic(auto)]
+
+mod backup;
+mod begin;
+mod drained;
+mod ends;
+mod line;
+mod master;
+mod outbox;
+mod rule;
+
+pub use begin::relay;
+pub use drained::Drained;
+pub use ends::{Receiver, Sender};
+pub use line::Relay;
