@@ -1,15 +1,24 @@
 -- How far the backup of a pair has come.
-use Rattle.std.specs.Prelude.{◌≡◌, ℕ, List, ◌++◌, take}
+use Rattle.std.specs.Prelude.{◌≡◌, ℕ, List, [], ◌∷◌, ◌++◌, take}
 use Rattle.lvs_types.specs.declared.item.Item.{Item}
 use Rattle.lvs_types.specs.declared.pair.PairEnd.{PairEnd}
 use Rattle.lvs_types.specs.declared.pair.PairEnd.TheVariants.{Finished, NoMemory}
 use Rattle.lvs_model.specs.State.{State}
-use Rattle.lvs_pair.specs.Pairing.{learnt_of}
+use Rattle.lvs_model.specs.Step.{step}
+use Rattle.lvs_model.specs.WellFormed.{IsWellFormed}
+use Rattle.lvs_core.specs.Laws.{TakesOver}
+use Rattle.lvs_pair.specs.Pairing.{learnt_of, items_of}
 use Rattle.lvs_pair.specs.declared.backup.Backup.{Backup}
 
+-- the first of these items took over what it recorded, and left a well formed state
+abbrev pub BeginsWell : State → List Item → Type 0
+BeginsWell s [] = Unit {0}
+BeginsWell s (first ∷ items) = TakesOver s first (step s first) × IsWellFormed (step s first).1
+
 -- from this state it has learnt these items
-abbrev pub HasLearnt : State → List Item → Backup → Type 0
-HasLearnt s items b = (b.learnt.items, b.core.state) ≡ learnt_of s items
+pub record HasLearnt (s : State) (items : List Item) (b : Backup) : Type 0 where
+  pub book : (b.learnt.items, b.core.state) ≡ learnt_of s items
+  pub begun : BeginsWell s items
 
 -- from this state it has learnt the first of these items
 pub record HasLearntSome (s : State) (items : List Item) (b : Backup) : Type 0 where
@@ -27,3 +36,11 @@ Learns old new items = (s : State) (before : List Item) → HasLearnt s before o
 -- or the first of them
 abbrev pub LearnsSome : Backup → Backup → List Item → Type 0
 LearnsSome old new items = (s : State) (before : List Item) → HasLearnt s before old → HasLearntSome s (before ++ items) new
+
+-- after the messages that were taken before, it has learnt those that were taken since
+abbrev pub KeepsUp : Backup → List (List ℕ) → Backup → List (List ℕ) → Type 0
+KeepsUp old taken new later = (s : State) → HasLearnt s (items_of taken) old → HasLearnt s (items_of later) new
+
+-- or some of their items
+abbrev pub FallsBehind : Backup → List (List ℕ) → Backup → List (List ℕ) → Type 0
+FallsBehind old taken new later = (s : State) → HasLearnt s (items_of taken) old → HasLearntSome s (items_of later) new

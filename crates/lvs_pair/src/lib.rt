@@ -5,12 +5,15 @@ mod backup;
 mod begin;
 mod drained;
 mod ends;
+mod follow;
 mod line;
 mod master;
 mod outbox;
+mod pair;
 mod rule;
 
 pub use begin::relay;
 pub use drained::Drained;
 pub use ends::{Receiver, Sender};
 pub use line::Relay;
+pub use pair::{Pair, run_pair};

@@ -82,6 +82,21 @@ fn hand_in_copies<R: Wait>(
 }
 
 impl Outbox {
+    /// An outbox that has sent nothing yet.
+    pub(crate) fn new(alloc: Global, sender: Sender, counts: Vec<u8>) -> Outbox
+        ensures sender { result.sender ≡ sender }
+        ensures waiting { result.waiting.items ≡ [] }
+        ensures counts { result.counts ≡ counts.items }
+        ensures at { result.at ≡ 0 }
+    {
+        Outbox {
+            sender,
+            waiting: VecDeque::new(alloc),
+            counts: Bytes::from_vec(counts),
+            at: 0,
+        }
+    }
+
     /// Sends a message as often as its count says.
     fn send<R: Wait>(
         &mut self,
