@@ -1,0 +1,1 @@
+//! A script printed, as one writes it by hand.
