@@ -1,5 +1,6 @@
 -- Words and lines that were put together are cut apart again.
 use Rattle.std.proofs.Common.{◌≡◌, ℕ, Bool, true, false, cond, List, [], ◌∷◌, ◌++◌, Result, Ok, Err, refl, sym, ◌∙◌, ap, append_assoc, arith}
+use Rattle.std.specs.Prelude.{OnOk, IfOk}
 use Rattle.std.specs.List.{list_all}
 use Rattle.std.proofs.lemmas.List.{append-nil}
 use Rattle.std.proofs.lemmas.Bool.Decides.{nat_tests}
@@ -14,6 +15,20 @@ use Rattle.lvs_tidy.specs.ScriptTexts.{spaced, with_feeds}
 pub spaced_append : (a b : List (List ℕ)) → spaced (a ++ b) ≡ spaced a ++ spaced b
 spaced_append [] b = refl
 spaced_append (w ∷ ws) b = ap (λ (t : List ℕ). 32 ∷ (w ++ t)) (spaced_append ws b) ∙ sym (append_assoc (32 ∷ w) (spaced ws) (spaced b))
+
+-- words that were appended after others
+pub spaced_more : (first next last : List ℕ) (a b : List (List ℕ)) → next ≡ first ++ spaced a → last ≡ next ++ spaced b → last ≡ first ++ spaced (a ++ b)
+spaced_more first next last a b before behind =
+    behind ∙ ap (λ (out : List ℕ). out ++ spaced b) before ∙ append_assoc first (spaced a) (spaced b) ∙ ap (λ (t : List ℕ). first ++ t) (sym (spaced_append a b))
+
+-- a fact of a call that may fail, from another
+pub on_ok : {A E P Q : Type 0} (r : Result A E) → (P → Q) → OnOk r P → OnOk r Q
+on_ok (Ok x) more is = more is
+on_ok (Err e) more is = is
+
+pub if_ok : {A E : Type 0} {P Q : A → Type 0} (r : Result A E) → ((x : A) → P x → Q x) → IfOk r P → IfOk r Q
+if_ok (Ok x) more is = more x is
+if_ok (Err e) more is = is
 
 pub with_feeds_append : (a b : List (List ℕ)) → with_feeds (a ++ b) ≡ with_feeds a ++ with_feeds b
 with_feeds_append [] b = refl

@@ -41,6 +41,7 @@ fn put_lines(out: &mut Vec<u8>, lines: &[ScriptLine]) -> Result<(), NoMemory>
 }
 
 /// Appends a round.
+#[tactic(auto, using(crate::proofs::Spaces::with_feeds_append))]
 fn put_round(out: &mut Vec<u8>, number: u64, round: &Round) -> Result<(), NoMemory>
     ensures { OnOk result (out.new.items ≡ out.old.items ++ with_feeds (round_lines number round.now)) }
 {
@@ -50,6 +51,7 @@ fn put_round(out: &mut Vec<u8>, number: u64, round: &Round) -> Result<(), NoMemo
 }
 
 /// Appends rounds, numbered from 0.
+#[tactic(auto, using(crate::proofs::Spaces::with_feeds_append))]
 fn put_rounds(out: &mut Vec<u8>, rounds: &[Round]) -> Result<(), NoMemory>
     ensures { OnOk result (out.new.items ≡ out.old.items ++ with_feeds (rounds_lines 0 rounds.now)) }
 {
@@ -74,6 +76,17 @@ fn put_local(out: &mut Vec<u8>, local: Addr) -> Result<(), NoMemory>
     }
 }
 
+/// The lines of a script, each with its line feed.
+#[tactic(auto, using(crate::proofs::Spaces::with_feeds_append))]
+fn script_bytes(alloc: Global, script: &Script) -> Result<Bytes, NoMemory>
+    ensures { IfOk result (λ text. text ≡ script_text script.now) }
+{
+    let mut out = Vec::new(alloc);
+    put_local(&mut out, script.local)?;
+    put_rounds(&mut out, script.rounds.as_slice())?;
+    Ok(Bytes::from_vec(out))
+}
+
 /// The text of a script: one spelling for each line, one blank between words, and a remark before
 /// each round with its number and moment (this project's profile). What is printed of a script that
 /// was read is read again as the same script.
@@ -81,8 +94,5 @@ pub fn print_script(alloc: Global, script: &Script) -> Result<Bytes, NoMemory>
     ensures text { IfOk result (λ text. text ≡ script_text script.now) }
     ensures read { (given : List ℕ) → script_of given ≡ Ok script.now → IfOk result (λ text. script_of text ≡ Ok script.now) }
 {
-    let mut out = Vec::new(alloc);
-    put_local(&mut out, script.local)?;
-    put_rounds(&mut out, script.rounds.as_slice())?;
-    Ok(Bytes::from_vec(out))
+    script_bytes(alloc, script)
 }
