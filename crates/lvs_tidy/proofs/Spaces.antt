@@ -1,16 +1,17 @@
 -- Words and lines that were put together are cut apart again.
-use Rattle.std.proofs.Common.{◌≡◌, ℕ, Bool, true, false, cond, List, [], ◌∷◌, ◌++◌, Result, Ok, Err, refl, sym, ◌∙◌, ap, append_assoc, arith}
+use Rattle.std.proofs.Common.{◌≡◌, ℕ, ◌+◌, Bool, true, false, cond, List, [], ◌∷◌, ◌++◌, Result, Ok, Err, refl, sym, ◌∙◌, ap, append_assoc, arith}
 use Rattle.std.specs.Prelude.{OnOk, IfOk}
 use Rattle.std.specs.List.{list_all}
 use Rattle.std.proofs.lemmas.List.{append-nil}
 use Rattle.std.proofs.lemmas.Bool.Decides.{nat_tests}
+use Rattle.lvs_types.specs.declared.script.Round.{Round}
 use Rattle.lvs_types.specs.declared.script.ScriptCause.{ScriptCause}
 use Rattle.lvs_types.specs.declared.script.ScriptCause.TheVariants as cause
 use Rattle.lvs_model.specs.Lines.{lines_of, words_of, is_comment, is_skipped, is_readable, is_printable}
 use Rattle.lvs_model.specs.Scripts.{ScriptRead, take_line_words, take_line}
 use Rattle.lvs_listing.proofs.Numerals.{all_more}
 use Rattle.lvs_listing.proofs.Wording.{IsWord, AreWords, line_with, words_of-line_with, is_plain, all_plain, lines_of-plain}
-use Rattle.lvs_tidy.specs.ScriptTexts.{spaced, with_feeds}
+use Rattle.lvs_tidy.specs.ScriptTexts.{spaced, with_feeds, round_lines, rounds_lines}
 
 pub spaced_append : (a b : List (List ℕ)) → spaced (a ++ b) ≡ spaced a ++ spaced b
 spaced_append [] b = refl
@@ -37,6 +38,15 @@ with_feeds_append (t ∷ ts) b = ap (λ (x : List ℕ). t ++ 10 ∷ x) (with_fee
 pub spaced_line : (w : List ℕ) (vs : List (List ℕ)) → w ++ spaced vs ≡ line_with w vs
 spaced_line w [] = append-nil w
 spaced_line w (v ∷ vs) = ap (λ (t : List ℕ). w ++ 32 ∷ t) (spaced_line v vs)
+
+-- a round that was appended, of those that are left
+pub rounds_step : (before out whole : List ℕ) (n : ℕ) (r : Round) (rest all : List Round) → all ≡ r ∷ rest → out ≡ before ++ with_feeds (round_lines n r) → before ++ with_feeds (rounds_lines n all) ≡ whole → out ++ with_feeds (rounds_lines (n + 1) rest) ≡ whole
+rounds_step before out whole n r rest all cut put so_far =
+    ap (λ (o : List ℕ). o ++ with_feeds (rounds_lines (n + 1) rest)) put
+    ∙ append_assoc before (with_feeds (round_lines n r)) (with_feeds (rounds_lines (n + 1) rest))
+    ∙ ap (λ (t : List ℕ). before ++ t) (sym (with_feeds_append (round_lines n r) (rounds_lines (n + 1) rest)))
+    ∙ ap (λ (rounds : List Round). before ++ with_feeds (rounds_lines n rounds)) (sym cut)
+    ∙ so_far
 
 -- LINES OF WORDS
 

@@ -51,7 +51,6 @@ fn put_round(out: &mut Vec<u8>, number: u64, round: &Round) -> Result<(), NoMemo
 }
 
 /// Appends rounds, numbered from 0.
-#[tactic(auto, using(crate::proofs::Spaces::with_feeds_append))]
 fn put_rounds(out: &mut Vec<u8>, rounds: &[Round]) -> Result<(), NoMemory>
     ensures { OnOk result (out.new.items ≡ out.old.items ++ with_feeds (rounds_lines 0 rounds.now)) }
 {
