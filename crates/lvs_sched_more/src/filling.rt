@@ -41,6 +41,10 @@ impl Filling {
         ensures free { self.new.free ≡ self.old.free - slots_a_round }
         ensures filling { IsFilling self.new.free self.new.slots }
     {
+        // A server with no weight costs no look through the slots.
+        if slots_a_round == 0 {
+            return;
+        }
         let mut taken = taken_by(&self.slots, place);
         let mut left = slots_a_round;
         while left > 0 && self.free > 0 {
