@@ -1,6 +1,5 @@
 //! The threads' director.
-ghost use Rattle.std.specs.Prelude.{◌≡◌, length, IfOk, IfErr};
-ghost use Rattle.lvs_shared.specs.Openings.{begun};
+ghost use Rattle.std.specs.Prelude.{◌≡◌, IfOk, IfErr};
 ghost use Rattle.lvs_shared.specs.Seats.{Went};
 
 use crate::chamber::Chamber;
@@ -40,14 +39,6 @@ impl<N: RoundName> Model for Director<N> {
 }
 
 impl<N: RoundName> Director<N> {
-    /// Its book and its locks, which threads borrow apart.
-    pub fn parts(&self) -> (&Book<Played>, &[Mutex<Chamber<N>>])
-        ensures book { result.0.now.id ≡ N.book.id }
-        ensures locks { length result.1.now ≡ (begun N.book.origin).buckets }
-    {
-        (&self.book, &self.locks)
-    }
-
     /// Does the seat's next item: `Done(n)` where it is in the book, and was the seat's item n;
     /// `Finished` where the seat's list is at its end. After want of memory the item is the seat's
     /// again. It may wait for the lock of the item's bucket, and for its turn at the board.

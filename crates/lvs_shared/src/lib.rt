@@ -12,7 +12,6 @@ mod origin;
 mod paired;
 mod played;
 mod seat;
-mod sharing;
 mod stepping;
 
 pub use chamber::Chamber;
@@ -22,5 +21,3 @@ pub use opening::Opening;
 pub use origin::{Act, Opened};
 pub use played::Played;
 pub use seat::{Seat, Stepped};
-pub use sharing::may_be_shared;
-pub use stepping::step_on;

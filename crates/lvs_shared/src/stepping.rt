@@ -84,8 +84,8 @@ fn commit<N: RoundName, R: Wait, G: Gate>(
     chamber.enter(rt, alloc, book, own, placed, home.head.as_ref(), gate)
 }
 
-/// A step over the two parts of a director: `Director::step` for threads that borrow them apart.
-pub fn step_on<N: RoundName, R: Wait, G: Gate>(
+/// A step over the two parts of a director.
+pub(crate) fn step_on<N: RoundName, R: Wait, G: Gate>(
     rt: &R,
     alloc: Global,
     book: &Book<Played>,
