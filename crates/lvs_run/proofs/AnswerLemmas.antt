@@ -3,13 +3,14 @@ use Rattle.std.proofs.Common.{◌≡◌, ◌≢◌, ℕ, ◌+◌, ◌≤◌, ◌
 use Rattle.std.specs.Io.KnownBytes.{Consumes, IsAtEnd}
 use Rattle.lvs_types.specs.declared.book.RoundBook.{RoundBook}
 use Rattle.lvs_types.specs.declared.program.ProgramCommand.{ProgramCommand}
+use Rattle.lvs_types.specs.declared.program.ProgramCommand.TheVariants as program
 use Rattle.lvs_types.specs.declared.status.Status.{Status}
 use Rattle.lvs_types.specs.declared.status.Status.TheVariants as status
-use Rattle.lvs_model.specs.Tasks.{Task, task_of, AreBooksOf}
+use Rattle.lvs_model.specs.Tasks.{Task, task_of, AreBooksOf, reads_input}
 use Rattle.lvs_outside.specs.Faults.{Rose, AppendsPrefix}
 use Rattle.lvs_run.specs.declared.writing.Wrote.{Wrote}
 use Rattle.lvs_run.specs.declared.writing.Wrote.TheVariants as wrote
-use Rattle.lvs_run.specs.Answers.{IsGiven, IsCarriedOut, IsCutOff, IsWrittenOf, status_of, IsAnswer, IsReady}
+use Rattle.lvs_run.specs.Answers.{IsReadFor, IsGiven, IsCarriedOut, IsCutOff, IsWrittenOf, status_of, IsAnswer, IsReady}
 use Rattle.lvs_run.specs.Stages.{IsCompleted, IsRefusal, IsUnread, IsRefusedBy}
 
 -- STATUSES
@@ -166,9 +167,9 @@ memory_of command (Err refused) old new s books answer memory = inl (answer.2, a
 memory_of command (Ok task) old new s books answer memory = wrote_memory command task old new s books answer.0 answer.1 answer.2 answer.4 memory
 
 -- the same, with what was given
-pub given_memory : (words : List (List ℕ)) (left_before left : Option (List ℕ)) (command : ProgramCommand) (input : List ℕ) (old new : Option (List ℕ)) (books : List RoundBook) → IsGiven words left_before left command input → Memory (task_of command input) old new books → ((new ≡ old) × (books ≡ [])) ⊎ ((c : ProgramCommand) × (i : List ℕ) × (task : Task) × IsGiven words left_before left c i × (task_of c i ≡ Ok task) × AppendsPrefix old new (task.text books))
-given_memory words left_before left command input old new books given (inl nothing) = inl nothing
-given_memory words left_before left command input old new books given (inr some) = inr (command, input, some.0, given, some.1, some.2)
+pub given_memory : (asked : Result ProgramCommand ℕ) (left_before left : Option (List ℕ)) (command : ProgramCommand) (input : List ℕ) (old new : Option (List ℕ)) (books : List RoundBook) → IsGiven asked left_before left command input → Memory (task_of command input) old new books → ((new ≡ old) × (books ≡ [])) ⊎ ((c : ProgramCommand) × (i : List ℕ) × (task : Task) × IsGiven asked left_before left c i × (task_of c i ≡ Ok task) × AppendsPrefix old new (task.text books))
+given_memory asked left_before left command input old new books given (inl nothing) = inl nothing
+given_memory asked left_before left command input old new books given (inr some) = inr (command, input, some.0, given, some.1, some.2)
 
 wrote_stopped : (s end : Status) (w : Wrote) → IsCompleted end → s ≡ status_of end w → (IsCompleted s → ⊥) → s ≢ status.WriteFault → s ≢ status.NoMemory → ⊥
 wrote_stopped s end wrote.All done same other calm room = other (subst IsCompleted (sym same) done)
@@ -219,24 +220,34 @@ given_all old new given bytes took end told =
     let P : Option (List ℕ) → Type 0 = λ o. Consumes o new given in
     all_read new bytes given (subst P told took) end
 
-command_is : (words : Result ProgramCommand ℕ) (command given : ProgramCommand) → words ≡ Ok given → words ≡ Ok command → given ≡ command
-command_is words command given one two = let both : ◌≡◌ {A = Result ProgramCommand ℕ} (Ok given) (Ok command) = sym one ∙ two in cc
+command_is : (asked : Result ProgramCommand ℕ) (command given : ProgramCommand) → asked ≡ Ok given → asked ≡ Ok command → given ≡ command
+command_is asked command given one two = let both : ◌≡◌ {A = Result ProgramCommand ℕ} (Ok given) (Ok command) = sym one ∙ two in cc
+
+-- the task is that of the bytes that the source told, also where they weren't read
+task_told : (command : ProgramCommand) (old new : Option (List ℕ)) (input bytes : List ℕ) → IsReadFor (reads_input command) old new input → old ≡ Some bytes → task_of command bytes ≡ task_of command input
+task_told program.Serial old new input bytes read told = ap (task_of program.Serial) (sym (given_all old new input bytes read.0 read.1 told))
+task_told (program.Run workers buckets) old new input bytes read told = ap (task_of (program.Run workers buckets)) (sym (given_all old new input bytes read.0 read.1 told))
+task_told program.Check old new input bytes read told = ap (task_of program.Check) (sym (given_all old new input bytes read.0 read.1 told))
+task_told (program.Demo clients) old new input bytes read told = refl
+task_told (program.Capture net bits step) old new input bytes read told = ap (task_of (program.Capture net bits step)) (sym (given_all old new input bytes read.0 read.1 told))
+task_told (program.Pair counts) old new input bytes read told = ap (task_of (program.Pair counts)) (sym (given_all old new input bytes read.0 read.1 told))
 
 -- the answer for the command that the words ask for and the bytes that the source told
-answer_told : (old new written_old written_new : Option (List ℕ)) (given command : ProgramCommand) (input bytes : List ℕ) (r : Result Task Status) (s : Status) (books : List RoundBook) → given ≡ command → input ≡ bytes → task_of command bytes ≡ r → IsAnswer given (task_of given input) written_old written_new s books → IsAnswer command r written_old written_new s books
-answer_told old new written_old written_new given command input bytes r s books same all is answer =
-    let P : ProgramCommand → Type 0 = λ c. IsAnswer c (task_of c input) written_old written_new s books in
-    let Q : List ℕ → Type 0 = λ b. IsAnswer command (task_of command b) written_old written_new s books in
-    let R : Result Task Status → Type 0 = λ x. IsAnswer command x written_old written_new s books in
-    subst R is (subst Q all (subst P same answer))
+answer_told : (asked : Result ProgramCommand ℕ) (left_before left old new : Option (List ℕ)) (given command : ProgramCommand) (input bytes : List ℕ) (r : Result Task Status) (s : Status) (books : List RoundBook) → IsGiven asked left_before left given input → asked ≡ Ok command → left_before ≡ Some bytes → task_of command bytes ≡ r → IsAnswer given (task_of given input) old new s books → IsAnswer command r old new s books
+answer_told asked left_before left old new given command input bytes r s books is good told found answer =
+    let same : given ≡ command = command_is asked command given is.asked_for good in
+    let here : task_of given input ≡ r = sym (task_told given left_before left input bytes is.read told) ∙ ap (λ (c : ProgramCommand). task_of c bytes) same ∙ found in
+    let P : ProgramCommand → Type 0 = λ c. IsAnswer c r old new s books in
+    let R : Result Task Status → Type 0 = λ x. IsAnswer given x old new s books in
+    subst P same (subst R here answer)
 
-pub complete_after : (old new written_old written_new : Option (List ℕ)) (words : Result ProgramCommand ℕ) (given command : ProgramCommand) (input bytes : List ℕ) (task : Task) (s : Status) (books : List RoundBook) → words ≡ Ok given → words ≡ Ok command → Consumes old new input → IsAtEnd new → old ≡ Some bytes → task_of command bytes ≡ Ok task → IsAnswer given (task_of given input) written_old written_new s books → s ≢ status.WriteFault → (s ≡ task.end) ⊎ (s ≡ status.NoMemory)
-complete_after old new written_old written_new words given command input bytes task s books one two took end told is answer calm =
-    accepted_ends command task written_old written_new s books (answer_told old new written_old written_new given command input bytes (Ok task) s books (command_is words command given one two) (given_all old new input bytes took end told) is answer) calm
+pub complete_after : (asked : Result ProgramCommand ℕ) (left_before left old new : Option (List ℕ)) (given command : ProgramCommand) (input bytes : List ℕ) (task : Task) (s : Status) (books : List RoundBook) → IsGiven asked left_before left given input → asked ≡ Ok command → left_before ≡ Some bytes → task_of command bytes ≡ Ok task → IsAnswer given (task_of given input) old new s books → s ≢ status.WriteFault → (s ≡ task.end) ⊎ (s ≡ status.NoMemory)
+complete_after asked left_before left old new given command input bytes task s books is good told found answer calm =
+    accepted_ends command task old new s books (answer_told asked left_before left old new given command input bytes (Ok task) s books is good told found answer) calm
 
-pub refused_after : (old new written_old written_new : Option (List ℕ)) (words : Result ProgramCommand ℕ) (given command : ProgramCommand) (input bytes : List ℕ) (refused : Status) (s : Status) (books : List RoundBook) → words ≡ Ok given → words ≡ Ok command → Consumes old new input → IsAtEnd new → old ≡ Some bytes → task_of command bytes ≡ Err refused → IsAnswer given (task_of given input) written_old written_new s books → (s ≡ refused) ⊎ (s ≡ status.NoMemory)
-refused_after old new written_old written_new words given command input bytes refused s books one two took end told is answer =
-    refused_ends command refused written_old written_new s books (answer_told old new written_old written_new given command input bytes (Err refused) s books (command_is words command given one two) (given_all old new input bytes took end told) is answer)
+pub refused_after : (asked : Result ProgramCommand ℕ) (left_before left old new : Option (List ℕ)) (given command : ProgramCommand) (input bytes : List ℕ) (refused : Status) (s : Status) (books : List RoundBook) → IsGiven asked left_before left given input → asked ≡ Ok command → left_before ≡ Some bytes → task_of command bytes ≡ Err refused → IsAnswer given (task_of given input) old new s books → (s ≡ refused) ⊎ (s ≡ status.NoMemory)
+refused_after asked left_before left old new given command input bytes refused s books is good told found answer =
+    refused_ends command refused old new s books (answer_told asked left_before left old new given command input bytes (Err refused) s books is good told found answer)
 
 too_much : (limit : ℕ) (old new : Option (List ℕ)) (bytes given : List ℕ) → length given ≡ limit + 1 → Consumes old new given → old ≡ Some bytes → length bytes ≤ limit → ⊥
 too_much limit old new bytes given size took told short =

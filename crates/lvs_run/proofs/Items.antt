@@ -58,7 +58,7 @@ serial_range round =
     let P : List Item → Type 0 = λ l. AreInRange l in
     subst P (sym (placed_items [] (serial_order round))) (tt, (tt, range_append (items_of_lines round) (item.SendSync ∷ []) (range_lines round.lines) (tt, tt)))
 
-all_steps : (rounds : List Round) → steps_in rounds ≡ items_in rounds + 4 * length rounds
+all_steps : (rounds : List Round) → steps_in rounds ≡ 18 * items_in rounds + 300 * length rounds
 all_steps [] = refl
 all_steps (round ∷ rounds) = omega (arith, all_steps rounds)
 

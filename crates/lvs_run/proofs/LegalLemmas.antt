@@ -1,17 +1,22 @@
--- A book of `serial` is legal.
+-- A book of `serial` is legal, and books of rounds are books of a run.
 use Rattle.std.proofs.Common.{◌≡◌, ℕ, zero, suc, ◌+◌, ◌≤◌, List, [], ◌∷◌, Some, None, length, take, drop, map, refl, sym, ◌∙◌, ap, subst, arith}
 use Rattle.std.specs.List.{slice_get}
 use Rattle.lvs_types.specs.declared.item.Item.{Item}
+use Rattle.lvs_types.specs.declared.reply.Reply.{Reply}
 use Rattle.lvs_types.specs.declared.book.Noted.{Noted}
 use Rattle.lvs_types.specs.declared.book.RoundBook.{RoundBook}
 use Rattle.lvs_types.specs.declared.script.Round.{Round}
 use Rattle.lvs_types.specs.declared.script.Script.{Script}
 use Rattle.lvs_model.specs.State.{State, initial}
 use Rattle.lvs_model.specs.Plans.{plan, serial_order, serial_items, items_of_actor, items_of_lines}
-use Rattle.lvs_model.specs.Books.{at_moment, acts_of, placed_of}
+use Rattle.lvs_model.specs.declared.task.ActOrder.{ActOrder}
+use Rattle.lvs_model.specs.declared.task.ActOrder.TheVariants.{Serial, Free}
+use Rattle.lvs_model.specs.Step.{run}
+use Rattle.lvs_model.specs.Books.{at_moment, acts_of, placed_of, items_of, replies_of}
 use Rattle.lvs_model.specs.Legal.{IsLegal, AreLegalBooks}
-use Rattle.lvs_model.specs.Tasks.{AreSerial, AreBooksOfRun, AreBooksOfRuns, serial_run}
-use Rattle.lvs_run.specs.SerialBooks.{IsPlayed, ArePlayed}
+use Rattle.lvs_model.specs.Tasks.{AreSerial, AreOrdered, AreBooksOfRun, AreBooksOfRuns, state_behind}
+use Rattle.lvs_run.specs.SerialBooks.{IsInOrder}
+use Rattle.lvs_run.specs.Ways.{Way, serial_way, run_by, IsPlayed, ArePlayed}
 use Rattle.lvs_run.proofs.Numbered.{AreAllFrom, numbered}
 use Rattle.lvs_run.proofs.Orders.{order_of_clock, order_of_control, order_of_sync, order_of_worker, order_of_none, items_of_only_worker}
 
@@ -46,7 +51,7 @@ has_none round acts order (suc (suc (suc (suc more)))) gives =
     let actor : ℕ = suc (suc (suc (suc more))) in
     nothing (acts_of actor acts) (items_of_actor actor (serial_order round)) (numbered actor [] (serial_order round) acts order).all (order_of_none actor (serial_order round) (omega arith))
 
-pub legal : (number : ℕ) (round : Round) (before : State) (book : RoundBook) (left : State) → IsPlayed number round before book left → IsLegal (at_moment before round.moment) (plan round 1 1) book left
+legal : (number : ℕ) (round : Round) (before : State) (book : RoundBook) (left : State) → IsInOrder number round before book left → IsLegal (at_moment before round.moment) (plan round 1 1) book left
 legal number round before book left is = record {
   sound = record {
     moment = is.moment;
@@ -60,23 +65,32 @@ legal number round before book left is = record {
   shown = is.shown;
 }
 
-pub legal_books : (number : ℕ) (s : State) (rounds : List Round) (books : List RoundBook) (left : State) → ArePlayed number s rounds books left → AreLegalBooks 1 1 number s rounds books
-legal_books number s rounds [] left played = tt
-legal_books number s [] (book ∷ books) left played = played
-legal_books number s (round ∷ rounds) (book ∷ books) left played =
-    (played.0, played.1.number_is, legal number round s book played.0 played.1, legal_books (number + 1) played.0 rounds books left played.2)
+pub played_serial : (number : ℕ) (round : Round) (before : State) (book : RoundBook) (left : State) → IsInOrder number round before book left → IsPlayed serial_way number round before book left
+played_serial number round before book left is = record { number_is = is.number_is; legal = legal number round before book left is; order = is.order }
 
-pub serial_books : (number : ℕ) (s : State) (rounds : List Round) (books : List RoundBook) (left : State) → ArePlayed number s rounds books left → AreSerial rounds books
-serial_books number s rounds [] left played = tt
-serial_books number s [] (book ∷ books) left played = played
-serial_books number s (round ∷ rounds) (book ∷ books) left played =
-    (played.1.order, serial_books (number + 1) played.0 rounds books left played.2)
+-- BOOKS OF ROUNDS
+
+legal_books : (way : Way) (number : ℕ) (s : State) (rounds : List Round) (books : List RoundBook) (left : State) → ArePlayed way number s rounds books left → AreLegalBooks way.workers way.buckets number s rounds books
+legal_books way number s rounds [] left played = tt
+legal_books way number s [] (book ∷ books) left played = played
+legal_books way number s (round ∷ rounds) (book ∷ books) left played =
+    (played.0, played.1.number_is, played.1.legal, legal_books way (number + 1) played.0 rounds books left played.2)
+
+serial_books : (workers buckets number : ℕ) (s : State) (rounds : List Round) (books : List RoundBook) (left : State) → ArePlayed (record { order = Serial; workers = workers; buckets = buckets }) number s rounds books left → AreSerial rounds books
+serial_books workers buckets number s rounds [] left played = tt
+serial_books workers buckets number s [] (book ∷ books) left played = played
+serial_books workers buckets number s (round ∷ rounds) (book ∷ books) left played =
+    (played.1.order, serial_books workers buckets (number + 1) played.0 rounds books left played.2)
+
+ordered_books : (order : ActOrder) (workers buckets number : ℕ) (s : State) (rounds : List Round) (books : List RoundBook) (left : State) → ArePlayed (record { order = order; workers = workers; buckets = buckets }) number s rounds books left → AreOrdered order rounds books
+ordered_books Serial workers buckets number s rounds books left played = serial_books workers buckets number s rounds books left played
+ordered_books Free workers buckets number s rounds books left played = tt
 
 -- no more books than rounds
-few_books : (number : ℕ) (s : State) (rounds : List Round) (books : List RoundBook) (left : State) → ArePlayed number s rounds books left → length books ≤ length rounds
-few_books number s rounds [] left played = omega arith
-few_books number s [] (book ∷ books) left played = absurd played
-few_books number s (round ∷ rounds) (book ∷ books) left played = omega (arith, few_books (number + 1) played.0 rounds books left played.2)
+few_books : (way : Way) (number : ℕ) (s : State) (rounds : List Round) (books : List RoundBook) (left : State) → ArePlayed way number s rounds books left → length books ≤ length rounds
+few_books way number s rounds [] left played = omega arith
+few_books way number s [] (book ∷ books) left played = absurd played
+few_books way number s (round ∷ rounds) (book ∷ books) left played = omega (arith, few_books way (number + 1) played.0 rounds books left played.2)
 
 take_all : (books : List RoundBook) (n : ℕ) → length books ≤ n → take n books ≡ books
 take_all [] zero few = refl
@@ -90,22 +104,41 @@ drop_all_of [] (suc n) few = refl
 drop_all_of (book ∷ books) zero few = absurd (omega arith)
 drop_all_of (book ∷ books) (suc n) few = drop_all_of books n (omega arith)
 
-played_run : (script : Script) (books : List RoundBook) (left : State) → ArePlayed 0 (initial script.local 1) script.rounds books left → AreBooksOfRuns (serial_run script ∷ []) books
-played_run script books left played =
-    let few : length books ≤ length script.rounds = few_books 0 (initial script.local 1) script.rounds books left played in
-    let run : AreBooksOfRun (serial_run script) books = record {
-      legal = legal_books 0 (initial script.local 1) script.rounds books left played;
-      order = serial_books 0 (initial script.local 1) script.rounds books left played;
+played_run : (way : Way) (script : Script) (books : List RoundBook) (left : State) → ArePlayed way 0 (initial script.local way.buckets) script.rounds books left → AreBooksOfRuns (run_by way script ∷ []) books
+played_run way script books left played =
+    let few : length books ≤ length script.rounds = few_books way 0 (initial script.local way.buckets) script.rounds books left played in
+    let run : AreBooksOfRun (run_by way script) books = record {
+      legal = legal_books way 0 (initial script.local way.buckets) script.rounds books left played;
+      order = ordered_books way.order way.workers way.buckets 0 (initial script.local way.buckets) script.rounds books left played;
     } in
-    (subst (λ (l : List RoundBook). AreBooksOfRun (serial_run script) l) (sym (take_all books (length script.rounds) few)) run, drop_all_of books (length script.rounds) few)
+    (subst (λ (l : List RoundBook). AreBooksOfRun (run_by way script) l) (sym (take_all books (length script.rounds) few)) run, drop_all_of books (length script.rounds) few)
+
+from_start : (way : Way) (script : Script) (s : State) (rounds : List Round) (books : List RoundBook) (left : State) → s ≡ initial script.local way.buckets → rounds ≡ script.rounds → ArePlayed way 0 s rounds books left → ArePlayed way 0 (initial script.local way.buckets) script.rounds books left
+from_start way script s rounds books left first are played =
+    let P : State → Type 0 = λ t. ArePlayed way 0 t rounds books left in
+    let Q : List Round → Type 0 = λ l. ArePlayed way 0 (initial script.local way.buckets) l books left in
+    subst Q are (subst P first played)
 
 -- what was played from the first state on
-pub books_of_run : (script : Script) (s : State) (rounds : List Round) (books : List RoundBook) (left : State) → s ≡ initial script.local 1 → rounds ≡ script.rounds → ArePlayed 0 s rounds books left → AreBooksOfRuns (serial_run script ∷ []) books
-books_of_run script s rounds books left first are played =
-    let P : State → Type 0 = λ t. ArePlayed 0 t rounds books left in
-    let Q : List Round → Type 0 = λ l. ArePlayed 0 (initial script.local 1) l books left in
-    played_run script books left (subst Q are (subst P first played))
+pub books_of_run : (way : Way) (script : Script) (s : State) (rounds : List Round) (books : List RoundBook) (left : State) → s ≡ initial script.local way.buckets → rounds ≡ script.rounds → ArePlayed way 0 s rounds books left → AreBooksOfRuns (run_by way script ∷ []) books
+books_of_run way script s rounds books left first are played = played_run way script books left (from_start way script s rounds books left first are played)
 
 -- before the first round
-pub no_books_of_run : (script : Script) → AreBooksOfRuns (serial_run script ∷ []) []
-no_books_of_run script = played_run script [] (initial script.local 1) refl
+pub no_books_of_run : (way : Way) (script : Script) → AreBooksOfRuns (run_by way script ∷ []) []
+no_books_of_run way script = played_run way script [] (initial script.local way.buckets) refl
+
+-- WHAT THE BOOKS LEAVE
+
+left_by : (way : Way) (number : ℕ) (round : Round) (s : State) (book : RoundBook) (left : State) → IsPlayed way number round s book left → left ≡ (run (at_moment s book.moment) (items_of book.acts)).1
+left_by way number round s book left is =
+    sym (ap (λ (m : ℕ). (run (at_moment s m) (items_of book.acts)).1) is.legal.sound.moment ∙ ap (λ (p : List Reply × State). p.1) is.legal.sound.replies)
+
+left_behind : (way : Way) (number : ℕ) (s : State) (rounds : List Round) (books : List RoundBook) (left : State) → ArePlayed way number s rounds books left → left ≡ state_behind s books
+left_behind way number s rounds [] left played = played
+left_behind way number s [] (book ∷ books) left played = absurd played
+left_behind way number s (round ∷ rounds) (book ∷ books) left played =
+    left_behind way (number + 1) played.0 rounds books left played.2 ∙ ap (λ (t : State). state_behind t books) (left_by way number round s book played.0 played.1)
+
+pub left_of_run : (way : Way) (script : Script) (s : State) (rounds : List Round) (books : List RoundBook) (left : State) → s ≡ initial script.local way.buckets → rounds ≡ script.rounds → ArePlayed way 0 s rounds books left → left ≡ state_behind (initial script.local way.buckets) books
+left_of_run way script s rounds books left first are played =
+    left_behind way 0 (initial script.local way.buckets) script.rounds books left (from_start way script s rounds books left first are played)

@@ -12,3 +12,8 @@ pub mod AnswerLemmas
 pub mod PartLemmas
 pub mod SentLemmas
 pub mod TaskLemmas
+pub mod PlanLemmas
+pub mod ActCounts
+pub mod CrewLemmas
+pub mod SummaryLemmas
+pub mod DemoLimits

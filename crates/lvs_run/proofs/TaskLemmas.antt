@@ -21,14 +21,16 @@ use Rattle.lvs_model.specs.Inputs.{Parts, parts_of}
 use Rattle.lvs_model.specs.Refusals.{◌>>=◌}
 use Rattle.lvs_model.specs.Scripts.{script_of}
 use Rattle.lvs_model.specs.Checking.{judgement}
+use Rattle.lvs_model.specs.Generated.{generated}
 use Rattle.lvs_model.specs.Verdicts.{verdict_text}
-use Rattle.lvs_model.specs.Tasks.{Task, task_of, verdict_task, verdict_end, report_task, capture_task, serial_run, script_given, script_behind, capture_given, AreBooksOfRuns, rounds_due}
+use Rattle.lvs_model.specs.Tasks.{Run, Task, task_of, verdict_task, verdict_end, report_task, capture_task, summary_task, summary_of, demo_run, serial_run, threaded_run, script_given, script_behind, capture_given, AreBooksOfRuns, rounds_due}
 use Rattle.lvs_run.specs.declared.output.Output.TheVariants as output
 use Rattle.lvs_run.specs.declared.writing.Wrote.{Wrote}
 use Rattle.lvs_run.specs.declared.writing.Wrote.TheVariants as wrote
 use Rattle.lvs_run.specs.Answers.{IsWrittenOf, IsAnswer, IsReady, status_of}
 use Rattle.lvs_run.specs.Stages.{IsCompleted, IsRefusal, IsRefusedBy}
-use Rattle.lvs_run.specs.Written.{IsWrote, AreWritten, IsSent}
+use Rattle.lvs_run.specs.Ways.{serial_way, threaded_way}
+use Rattle.lvs_run.specs.Written.{IsWrote, IsWrittenOut, AreWritten, IsSent}
 use Rattle.lvs_run.proofs.AnswerLemmas.{refused_answer}
 use Rattle.lvs_run.proofs.Books.{reports_are, report_is_cut, nothing_appended}
 use Rattle.lvs_run.proofs.LegalLemmas.{no_books_of_run}
@@ -66,10 +68,10 @@ ready_by (Ok given) f is each = each given
 ready_by (Err refused) f is each = is
 
 ready_run : (script : Script) → IsReady (Ok (report_task (serial_run script)))
-ready_run script = (tt, no_books_of_run script)
+ready_run script = (tt, no_books_of_run serial_way script)
 
 ready_capture : (script : Script) → IsReady (Ok (capture_task (serial_run script)))
-ready_capture script = (tt, no_books_of_run script)
+ready_capture script = (tt, no_books_of_run serial_way script)
 
 -- THE REPORT OF A SCRIPT
 
@@ -95,6 +97,65 @@ pub serial_refused : (input : List ℕ) (old new : Option (List ℕ)) (found s :
 serial_refused input old new found s books is same kept none =
     subst (λ (t : Status). IsAnswer program.Serial (task_of program.Serial input) old new t books) (sym same)
     (refused_answer program.Serial (task_of program.Serial input) old new found books (passed_on (script_given input) (λ (script : Script). Ok (report_task (serial_run script))) found is) (ready_serial input) (λ task. nothing_appended old new (task.text []) kept) kept none)
+
+-- THE REPORT OF A RUN WITH THREADS
+
+abbrev run_task : ℕ → ℕ → Script → Result Task Status
+run_task workers buckets script = Ok (report_task (threaded_run script workers buckets))
+
+ready_threaded : (workers buckets : ℕ) (script : Script) → IsReady (run_task workers buckets script)
+ready_threaded workers buckets script = (tt, no_books_of_run (threaded_way workers buckets) script)
+
+ready_run_of : (workers buckets : ℕ) (input : List ℕ) → IsReady (task_of (program.Run workers buckets) input)
+ready_run_of workers buckets input = ready_by (script_given input) (run_task workers buckets) (script_refused 0 (script_of input)) (ready_threaded workers buckets)
+
+threaded_report : (workers buckets : ℕ) (script : Script) (old new : Option (List ℕ)) (books : List RoundBook) (w : Wrote) → (w ≡ wrote.All → length books ≡ rounds_due (threaded_run script workers buckets ∷ [])) → AreWritten output.Report old new books w → IsWrittenOf (program.Run workers buckets) (report_task (threaded_run script workers buckets)) old new books w
+threaded_report workers buckets script old new books wrote.All all written = (all refl, subst (λ (t : List ℕ). Appends old new t) (reports_are books) written)
+threaded_report workers buckets script old new books wrote.Prefix all written = report_is_cut old new books written
+threaded_report workers buckets script old new books wrote.NoMemory all written = subst (λ (t : List ℕ). AppendsPrefix old new t) (reports_are books) written
+
+pub run_answer : (workers buckets : ℕ) (input : List ℕ) (script : Script) (old new : Option (List ℕ)) (s : Status) (books all_books : List RoundBook) (w : Wrote) → script_given input ≡ Ok script → s ≡ status_of status.Finished w → all_books ≡ books → AreBooksOfRuns (threaded_run script workers buckets ∷ []) books → (w ≡ wrote.All → length books ≡ rounds_due (threaded_run script workers buckets ∷ [])) → AreWritten output.Report old new books w → IsAnswer (program.Run workers buckets) (task_of (program.Run workers buckets) input) old new s all_books
+run_answer workers buckets input script old new s books all_books w given is same are all written =
+    let task : Task = report_task (threaded_run script workers buckets) in
+    let found : task_of (program.Run workers buckets) input ≡ Ok task = rw given refl in
+    subst (λ (l : List RoundBook). IsAnswer (program.Run workers buckets) (task_of (program.Run workers buckets) input) old new s l) (sym same)
+    (answer_with (program.Run workers buckets) (task_of (program.Run workers buckets) input) task old new s books found (w, is, tt, are, threaded_report workers buckets script old new books w all written))
+
+pub run_refused : (workers buckets : ℕ) (input : List ℕ) (old new : Option (List ℕ)) (found s : Status) (books : List RoundBook) → IsRefusedBy (script_given input) found → s ≡ found → new ≡ old → books ≡ [] → IsAnswer (program.Run workers buckets) (task_of (program.Run workers buckets) input) old new s books
+run_refused workers buckets input old new found s books is same kept none =
+    subst (λ (t : Status). IsAnswer (program.Run workers buckets) (task_of (program.Run workers buckets) input) old new t books) (sym same)
+    (refused_answer (program.Run workers buckets) (task_of (program.Run workers buckets) input) old new found books (passed_on (script_given input) (run_task workers buckets) found is) (ready_run_of workers buckets input) (λ task. nothing_appended old new (task.text []) kept) kept none)
+
+-- THE SUMMARY OF A DEMONSTRATION
+
+abbrev demo_task : ℕ → Task
+demo_task clients = summary_task (demo_run clients)
+
+abbrev demo_script : Script → Run
+demo_script script = threaded_run script 4 16
+
+summary_told : (clients : ℕ) (old new : Option (List ℕ)) (books : List RoundBook) (w : Wrote) → (w ≡ wrote.All → length books ≡ rounds_due (demo_run clients ∷ [])) → IsWrittenOut old new (summary_of (demo_run clients) books) w → IsWrittenOf (program.Demo clients) (demo_task clients) old new books w
+summary_told clients old new books wrote.All all written = (all refl, written)
+summary_told clients old new books wrote.Prefix all written = written
+summary_told clients old new books wrote.NoMemory all written = written
+
+-- of the generated script
+demo_answer_of : (clients : ℕ) (old new : Option (List ℕ)) (s : Status) (books all_books : List RoundBook) (w : Wrote) → s ≡ status_of status.Finished w → all_books ≡ books → AreBooksOfRuns (demo_run clients ∷ []) books → (w ≡ wrote.All → length books ≡ rounds_due (demo_run clients ∷ [])) → IsWrittenOut old new (summary_of (demo_run clients) books) w → IsAnswer (program.Demo clients) (Ok (demo_task clients)) old new s all_books
+demo_answer_of clients old new s books all_books w is same are all written =
+    subst (λ (l : List RoundBook). IsAnswer (program.Demo clients) (Ok (demo_task clients)) old new s l) (sym same) (w, is, tt, are, summary_told clients old new books w all written)
+
+pub demo_answer : (clients : ℕ) (script : Script) (old new : Option (List ℕ)) (s : Status) (books all_books : List RoundBook) (w : Wrote) → script ≡ generated clients → s ≡ status_of status.Finished w → all_books ≡ books → AreBooksOfRuns (demo_script script ∷ []) books → (w ≡ wrote.All → length books ≡ rounds_due (demo_script script ∷ [])) → IsWrittenOut old new (summary_of (demo_script script) books) w → IsAnswer (program.Demo clients) (Ok (demo_task clients)) old new s all_books
+demo_answer clients script old new s books all_books w made is same are all written =
+    demo_answer_of clients old new s books all_books w is same
+    (subst (λ (x : Script). AreBooksOfRuns (demo_script x ∷ []) books) made are)
+    (subst (λ (x : Script). w ≡ wrote.All → length books ≡ rounds_due (demo_script x ∷ [])) made all)
+    (subst (λ (x : Script). IsWrittenOut old new (summary_of (demo_script x) books) w) made written)
+
+-- without memory for its script
+pub demo_unmade : (clients : ℕ) (old new : Option (List ℕ)) (s : Status) (books : List RoundBook) → s ≡ status.NoMemory → new ≡ old → books ≡ [] → IsAnswer (program.Demo clients) (Ok (demo_task clients)) old new s books
+demo_unmade clients old new s books is kept none =
+    subst (λ (l : List RoundBook). IsAnswer (program.Demo clients) (Ok (demo_task clients)) old new s l) (sym none)
+    (wrote.NoMemory, is, tt, no_books_of_run (threaded_way 4 16) (generated clients), nothing_appended old new (summary_of (demo_run clients) []) kept)
 
 -- A VERDICT
 

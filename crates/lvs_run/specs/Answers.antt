@@ -1,5 +1,5 @@
 -- What a call answers, by what its command does with the input.
-use Rattle.std.specs.Prelude.{◌≡◌, ◌⊎◌, ℕ, List, [], Option, Result, Ok, Err}
+use Rattle.std.specs.Prelude.{◌≡◌, ◌⊎◌, ℕ, Bool, true, false, List, [], Option, Result, Ok, Err}
 use Rattle.std.specs.Io.KnownBytes.{Appends, Consumes, IsAtEnd}
 use Rattle.lvs_outside.specs.Faults.{AppendsPrefix, AppendsProperPrefix}
 use Rattle.lvs_types.specs.declared.book.RoundBook.{RoundBook}
@@ -7,18 +7,21 @@ use Rattle.lvs_types.specs.declared.program.ProgramCommand.{ProgramCommand}
 use Rattle.lvs_types.specs.declared.program.ProgramCommand.TheVariants as program
 use Rattle.lvs_types.specs.declared.status.Status.{Status}
 use Rattle.lvs_types.specs.declared.status.Status.TheVariants as status
-use Rattle.lvs_model.specs.Tasks.{Task, AreBooksOf, IsPlayedOut}
+use Rattle.lvs_model.specs.Tasks.{Task, AreBooksOf, IsPlayedOut, reads_input}
 use Rattle.lvs_run.specs.declared.writing.Wrote.{Wrote}
 use Rattle.lvs_run.specs.declared.writing.Wrote.TheVariants as wrote
 use Rattle.lvs_run.specs.Stages.{IsCompleted, IsRefusal}
-use Rattle.lvs_run.specs.Words.{asked_of}
 use Rattle.lvs_run.specs.Written.{AppendsAllButLast}
 
--- the words ask for the command, and the source gave these bytes and is at its end
-pub record IsGiven (words : List (List ℕ)) (left_before left : Option (List ℕ)) (command : ProgramCommand) (input : List ℕ) : Type 0 where
-  pub asked : asked_of words ≡ Ok command
-  pub read : Consumes left_before left input
-  pub end : IsAtEnd left
+-- where the input is read, the source gave these bytes and is at its end; where it isn't, it gave none
+abbrev pub IsReadFor : Bool → Option (List ℕ) → Option (List ℕ) → List ℕ → Type 0
+IsReadFor true left_before left input = Consumes left_before left input × IsAtEnd left
+IsReadFor false left_before left input = (left ≡ left_before) × (input ≡ [])
+
+-- this is the command that was asked for, and its whole input
+pub record IsGiven (asked : Result ProgramCommand ℕ) (left_before left : Option (List ℕ)) (command : ProgramCommand) (input : List ℕ) : Type 0 where
+  pub asked_for : asked ≡ Ok command
+  pub read : IsReadFor (reads_input command) left_before left input
 
 -- the task was carried out: its status, its books, and its whole text
 pub record IsCarriedOut (task : Task) (written_before written : Option (List ℕ)) (ended : Status) (books : List RoundBook) : Type 0 where
@@ -30,6 +33,7 @@ pub record IsCarriedOut (task : Task) (written_before written : Option (List ℕ
 -- what was written where the sink failed: of reports all but the last, and not the whole last one; else a part of the text
 abbrev pub IsCutOff : ProgramCommand → Task → Option (List ℕ) → Option (List ℕ) → List RoundBook → Type 0
 IsCutOff program.Serial task old new books = AppendsAllButLast old new books
+IsCutOff (program.Run workers buckets) task old new books = AppendsAllButLast old new books
 IsCutOff other task old new books = AppendsProperPrefix old new (task.text books)
 
 -- how far a task was written

@@ -3,6 +3,8 @@ pub mod Written
 pub mod Stages
 pub mod Seen
 pub mod SerialBooks
+pub mod Ways
+pub mod Crews
 pub mod Limits
 pub mod Answers
 pub mod Listings

@@ -1,5 +1,5 @@
--- The books that the rounds of one order make.
-use Rattle.std.specs.Prelude.{◌≡◌, ℕ, ◌+◌, List, [], ◌∷◌}
+-- The book that one thread makes of a round.
+use Rattle.std.specs.Prelude.{◌≡◌, ℕ}
 use Rattle.lvs_types.specs.declared.book.RoundBook.{RoundBook}
 use Rattle.lvs_types.specs.declared.script.Round.{Round}
 use Rattle.lvs_model.specs.State.{State}
@@ -7,8 +7,8 @@ use Rattle.lvs_model.specs.Plans.{listings_of}
 use Rattle.lvs_model.specs.Books.{IsRun, IsSerial, at_moment}
 use Rattle.lvs_model.specs.Listings.{shown_of}
 
--- what the code makes of a round: its book, from the state before its tick to the one that is left
-pub record IsPlayed (number : ℕ) (round : Round) (before : State) (book : RoundBook) (left : State) : Type 0 where
+-- its items in the one order of `serial`, from the state before its tick to the one that is left
+pub record IsInOrder (number : ℕ) (round : Round) (before : State) (book : RoundBook) (left : State) : Type 0 where
   pub number_is : book.number ≡ number
   pub moment : book.moment ≡ round.moment
   pub workers : book.workers ≡ 1
@@ -16,9 +16,3 @@ pub record IsPlayed (number : ℕ) (round : Round) (before : State) (book : Roun
   pub order : IsSerial round book
   pub replies : IsRun (at_moment before round.moment) book.acts left
   pub shown : book.shown ≡ shown_of left (listings_of round)
-
--- what the code makes of the first of these rounds
-abbrev pub ArePlayed : ℕ → State → List Round → List RoundBook → State → Type 0
-ArePlayed number s rounds [] left = left ≡ s
-ArePlayed number s [] (book ∷ books) left = ⊥
-ArePlayed number s (round ∷ rounds) (book ∷ books) left = (mid : State) × IsPlayed number round s book mid × ArePlayed (number + 1) mid rounds books left

@@ -18,6 +18,7 @@ use Rattle.lvs_run.specs.declared.writing.Wrote.TheVariants as wrote
 abbrev pub written_of : Output → RoundBook → List ℕ
 written_of output.Report book = round_text book
 written_of output.Frames book = flat_map record_bytes (frames_of_book book)
+written_of output.Nothing book = []
 
 -- and of rounds, in their order
 abbrev pub all_written_of : Output → List RoundBook → List ℕ
@@ -55,11 +56,15 @@ AreWritten kind old new books wrote.All = Appends old new (all_written_of kind b
 AreWritten kind old new books wrote.Prefix = IsCutInLast kind old new books
 AreWritten kind old new books wrote.NoMemory = AppendsPrefix old new (all_written_of kind books)
 
+-- what became of a text that is due as a whole
+abbrev pub IsWrittenOut : Option (List ℕ) → Option (List ℕ) → List ℕ → Wrote → Type 0
+IsWrittenOut old new text wrote.All = Appends old new text
+IsWrittenOut old new text wrote.Prefix = AppendsProperPrefix old new text
+IsWrittenOut old new text wrote.NoMemory = AppendsPrefix old new text
+
 -- what became of the capture file of rounds
 abbrev pub IsSent : Option (List ℕ) → Option (List ℕ) → List RoundBook → Wrote → Type 0
-IsSent old new books wrote.All = Appends old new (sent_capture books)
-IsSent old new books wrote.Prefix = AppendsProperPrefix old new (sent_capture books)
-IsSent old new books wrote.NoMemory = AppendsPrefix old new (sent_capture books)
+IsSent old new books w = IsWrittenOut old new (sent_capture books) w
 
 -- the sink's count rose where it failed, and else is as before
 abbrev pub HasSinkCause : ℕ → ℕ → Wrote → Type 0

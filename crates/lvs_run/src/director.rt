@@ -5,7 +5,7 @@ ghost use Rattle.lvs_model.specs.Step.{step, IsInRange};
 ghost use Rattle.lvs_model.specs.Plans.{listings_of};
 ghost use Rattle.lvs_model.specs.Listings.{shown_of};
 
-use crate::listings::{has_listing, show_lines};
+use crate::listings::show_round;
 use lvs_core::Core;
 use lvs_types::{Addr, Item, Listed, NoMemory, Reply, Round, ShownText};
 use std::alloc::Global;
@@ -56,11 +56,6 @@ impl Director {
     pub(crate) fn show(&self, alloc: Global, round: &Round) -> Result<Listed<ShownText>, NoMemory>
         ensures { IfOk result (λ shown. shown ≡ shown_of self.now.state (listings_of round.now)) }
     {
-        if !has_listing(round) {
-            return Ok(Listed::new(alloc));
-        }
-        let tables = self.core.snapshot(alloc)?;
-        let shown = show_lines(alloc, &tables, round.lines.as_slice())?;
-        Ok(Listed::from_vec(shown))
+        show_round(alloc, &self.core, round)
     }
 }

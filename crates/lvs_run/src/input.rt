@@ -1,16 +1,18 @@
-//! The input, read to its end before anything else.
+//! The input, read to its end before anything else by the commands that read it.
 ghost use Rattle.std.specs.Prelude.{◌≡◌, ◌≢◌, ◌≤◌, ◌+◌, ℕ, List, length, IfOk, IfErr};
 ghost use Rattle.std.specs.Io.KnownBytes.{Consumes, IsAtEnd};
 ghost use Rattle.lvs_types.specs.Limits.{max_input};
 ghost use Rattle.lvs_outside.specs.Faults.{Rose};
+ghost use Rattle.lvs_model.specs.Tasks.{reads_input};
+ghost use Rattle.lvs_run.specs.Answers.{IsReadFor};
 ghost use Rattle.lvs_run.specs.Stages.{IsUnread};
 
 use lvs_outside::{ReadStop, Source, read_all};
-use lvs_types::Status;
+use lvs_types::{ProgramCommand, Status};
 use std::alloc::Global;
 
 /// The whole input, or the status of one that wasn't read to its end.
-pub(crate) fn read_input<S: Source>(alloc: Global, source: &mut S) -> Result<Vec<u8>, Status>
+fn read_whole<S: Source>(alloc: Global, source: &mut S) -> Result<Vec<u8>, Status>
     ensures whole { IfOk result (λ bytes. Consumes (S.left source.old) (S.left source.new) bytes.items) }
     ensures end { IfOk result (λ bytes. IsAtEnd (S.left source.new)) }
     ensures fits { IfOk result (λ bytes. length bytes.items ≤ max_input) }
@@ -26,5 +28,37 @@ pub(crate) fn read_input<S: Source>(alloc: Global, source: &mut S) -> Result<Vec
         Err(ReadStop::Fault) => Err(Status::ReadFault),
         Err(ReadStop::TooLong) => Err(Status::ScriptTooLong),
         Err(ReadStop::NoMemory) => Err(Status::NoMemory),
+    }
+}
+
+/// Whether a command reads the input.
+fn is_reading(command: &ProgramCommand) -> bool
+    ensures { result ≡ reads_input command.now }
+{
+    match command {
+        ProgramCommand::Demo { .. } => false,
+        _ => true,
+    }
+}
+
+/// The whole input of a command, which is empty where it reads none, or the status of one that wasn't
+/// read to its end.
+pub(crate) fn read_input<S: Source>(
+    alloc: Global,
+    command: &ProgramCommand,
+    source: &mut S,
+) -> Result<Vec<u8>, Status>
+    ensures read { IfOk result (λ bytes. IsReadFor (reads_input command.now) (S.left source.old) (S.left source.new) bytes.items) }
+    ensures fault { result ≡ Err Status.ReadFault → Rose (S.faults source.old) (S.faults source.new) }
+    ensures kept { result ≢ Err Status.ReadFault → S.faults source.new ≡ S.faults source.old }
+    ensures too_long { result ≡ Err Status.ScriptTooLong → (bytes : List ℕ) × (length bytes ≡ max_input + 1) × Consumes (S.left source.old) (S.left source.new) bytes }
+    ensures short { result ≢ Err Status.ScriptTooLong → result ≢ Err Status.NoMemory → (bytes : List ℕ) × (length bytes ≤ max_input) × Consumes (S.left source.old) (S.left source.new) bytes }
+    ensures limit { (bytes : List ℕ) × (length bytes ≤ max_input + 1) × Consumes (S.left source.old) (S.left source.new) bytes }
+    ensures unread { IfErr result IsUnread }
+{
+    if is_reading(command) {
+        read_whole(alloc, source)
+    } else {
+        Ok(Vec::new(alloc))
     }
 }

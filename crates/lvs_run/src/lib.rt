@@ -17,6 +17,9 @@ mod round;
 mod rounds;
 mod serial;
 mod streams;
+mod threaded;
+mod threaded_commands;
+mod threaded_rounds;
 mod verdict;
 mod writing;
 
@@ -34,8 +37,14 @@ mod check_rows;
 #[cfg(test)]
 mod fault_tests;
 #[cfg(test)]
+mod gate_rows;
+#[cfg(test)]
+mod gates;
+#[cfg(test)]
 mod icmp_rows;
 #[cfg(test)]
 mod rows;
 #[cfg(test)]
 mod tests;
+#[cfg(test)]
+mod threaded_rows;

@@ -1,11 +1,13 @@
 //! The listings of a round.
 ghost use Rattle.std.specs.Prelude.{◌≡◌, IfOk};
 ghost use Rattle.std.specs.List.{list_any, filter_map};
-ghost use Rattle.lvs_model.specs.Plans.{shown_by};
+ghost use Rattle.lvs_model.specs.Plans.{shown_by, listings_of};
+ghost use Rattle.lvs_model.specs.Listings.{shown_of};
 ghost use Rattle.lvs_run.specs.Listings.{is_listing, shown_in, all_shown_in};
 
 use lvs_check::listing_text;
-use lvs_types::{NoMemory, Round, ScriptLine, Shown, ShownText, Snapshot};
+use lvs_core::Core;
+use lvs_types::{Listed, NoMemory, Round, ScriptLine, Shown, ShownText, Snapshot};
 use std::alloc::Global;
 
 fn is_listing(line: &ScriptLine) -> bool
@@ -18,7 +20,7 @@ fn is_listing(line: &ScriptLine) -> bool
 }
 
 /// Whether a round asks for a listing.
-pub(crate) fn has_listing(round: &Round) -> bool
+fn has_listing(round: &Round) -> bool
     ensures { result ≡ list_any is_listing round.now.lines }
 {
     round.lines.as_slice().iter().any(is_listing)
@@ -35,7 +37,7 @@ fn show(alloc: Global, tables: &Snapshot, kind: &Shown) -> Result<ShownText, NoM
 }
 
 /// The listings that lines ask for, in their order.
-pub(crate) fn show_lines(
+fn show_lines(
     alloc: Global,
     tables: &Snapshot,
     lines: &[ScriptLine],
@@ -49,4 +51,20 @@ pub(crate) fn show_lines(
         }
     }
     Ok(all)
+}
+
+/// The listings of a round, of a director as it is now.
+pub(crate) fn show_round(
+    alloc: Global,
+    core: &Core,
+    round: &Round,
+) -> Result<Listed<ShownText>, NoMemory>
+    ensures { IfOk result (λ shown. shown ≡ shown_of core.now.state (listings_of round.now)) }
+{
+    if !has_listing(round) {
+        return Ok(Listed::new(alloc));
+    }
+    let tables = core.snapshot(alloc)?;
+    let shown = show_lines(alloc, &tables, round.lines.as_slice())?;
+    Ok(Listed::from_vec(shown))
 }

@@ -16,6 +16,8 @@ pub(crate) enum Output {
     Report,
     /// The records of the packets that were sent, as a capture file has them.
     Frames,
+    /// Nothing: what is due is written behind the last round.
+    Nothing,
 }
 
 /// Appends the record of a packet that was sent in that second. A packet has at most 65,535 bytes;
@@ -73,5 +75,6 @@ pub(crate) fn text_of_round(
     match output {
         Output::Report => print_round(alloc, book),
         Output::Frames => sent_records(alloc, book),
+        Output::Nothing => Ok(Bytes::new(alloc)),
     }
 }

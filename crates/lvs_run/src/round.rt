@@ -1,10 +1,10 @@
-//! One round of `serial`.
+//! One round, in the one order of `serial`.
 ghost use Rattle.std.specs.Prelude.{◌≡◌, ◌+◌, ◌≤◌, ◌^◌, map, length, IfOk, OnOk};
 ghost use Rattle.lvs_model.specs.Step.{AreInRange};
 ghost use Rattle.lvs_model.specs.Plans.{items_of_lines};
 ghost use Rattle.lvs_model.specs.Books.{IsRun, placed_of};
 ghost use Rattle.lvs_script.specs.Placing.{items_placed};
-ghost use Rattle.lvs_run.specs.SerialBooks.{IsPlayed};
+ghost use Rattle.lvs_run.specs.SerialBooks.{IsInOrder};
 
 use crate::director::Director;
 use lvs_script::serial_items;
@@ -51,7 +51,7 @@ pub(crate) fn play_round(
 ) -> Result<RoundBook, NoMemory>
     requires moment { round.now.moment ≤ 4294967295 }
     requires young { director.old.steps + length (items_of_lines round.now) + 4 ≤ 2 ^ 62 }
-    ensures book { IfOk result (λ book. IsPlayed number round.now director.old.state book director.new.state) }
+    ensures book { IfOk result (λ book. IsInOrder number round.now director.old.state book director.new.state) }
     ensures steps { OnOk result (director.new.steps ≡ director.old.steps + length (items_of_lines round.now) + 4) }
 {
     director.step(alloc, Item::Tick(round.moment))?;

@@ -1,11 +1,11 @@
-//! Round after round, each written when it is done.
+//! Round after round on one thread, each written when it is done.
 ghost use Rattle.std.specs.Prelude.{◌≡◌, ◌+◌, ◌≤◌, ◌^◌, [], ◌∷◌, length};
 ghost use Rattle.lvs_model.specs.State.{State};
 ghost use Rattle.lvs_model.specs.ScriptLimits.{AreMoments, IsWithinLimits};
 ghost use Rattle.lvs_model.specs.Tasks.{AreBooksOfRuns, serial_run, rounds_due};
 ghost use Rattle.lvs_run.specs.Written.{AreWritten, HasSinkCause};
 ghost use Rattle.lvs_run.specs.Limits.{steps_in};
-ghost use Rattle.lvs_run.specs.SerialBooks.{ArePlayed};
+ghost use Rattle.lvs_run.specs.Ways.{serial_way, ArePlayed};
 
 use crate::director::Director;
 use crate::output::Output;
@@ -43,7 +43,7 @@ fn play_rounds<K: Sink>(
 ) -> Played
     requires moments { AreMoments rounds.now }
     requires young { director.old.steps + steps_in rounds.now ≤ 2 ^ 62 }
-    ensures played { (left : State) × ArePlayed 0 director.old.state rounds.now result.rounds.items left }
+    ensures played { (left : State) × ArePlayed serial_way 0 director.old.state rounds.now result.rounds.items left }
     ensures all { result.wrote ≡ Wrote.All → length result.rounds.items ≡ length rounds.now }
     ensures written { AreWritten output (K.written sink.old) (K.written sink.new) result.rounds.items result.wrote }
     ensures cause { HasSinkCause (K.faults sink.old) (K.faults sink.new) result.wrote }

@@ -33,13 +33,13 @@ pub fn serve_serial<S: Source, K: Sink>(
     source: &mut S,
     sink: &mut K,
 ) -> Done
-    ensures headline { IsCompleted result.status → (command : ProgramCommand) × (input : List ℕ) × (task : Task) × IsGiven (map string_bytes words.now) (S.left source.old) (S.left source.new) command input × (task_of command input ≡ Ok task) × IsCarriedOut task (K.written sink.old) (K.written sink.new) result.status result.rounds.items }
-    ensures first { result.rounds.items ≢ [] → (command : ProgramCommand) × (input : List ℕ) × (task : Task) × IsGiven (map string_bytes words.now) (S.left source.old) (S.left source.new) command input × (task_of command input ≡ Ok task) × AreBooksOf task result.rounds.items }
-    ensures refusal { IsRefusal result.status → (command : ProgramCommand) × (input : List ℕ) × IsGiven (map string_bytes words.now) (S.left source.old) (S.left source.new) command input × (task_of command input ≡ Err result.status) }
+    ensures headline { IsCompleted result.status → (command : ProgramCommand) × (input : List ℕ) × (task : Task) × IsGiven (asked_of (map string_bytes words.now)) (S.left source.old) (S.left source.new) command input × (task_of command input ≡ Ok task) × IsCarriedOut task (K.written sink.old) (K.written sink.new) result.status result.rounds.items }
+    ensures first { result.rounds.items ≢ [] → (command : ProgramCommand) × (input : List ℕ) × (task : Task) × IsGiven (asked_of (map string_bytes words.now)) (S.left source.old) (S.left source.new) command input × (task_of command input ≡ Ok task) × AreBooksOf task result.rounds.items }
+    ensures refusal { IsRefusal result.status → (command : ProgramCommand) × (input : List ℕ) × IsGiven (asked_of (map string_bytes words.now)) (S.left source.old) (S.left source.new) command input × (task_of command input ≡ Err result.status) }
     ensures complete { (command : ProgramCommand) (input : List ℕ) (task : Task) → asked_of (map string_bytes words.now) ≡ Ok command → S.left source.old ≡ Some input → length input ≤ max_input → task_of command input ≡ Ok task → (Rose (S.faults source.old) (S.faults source.new) → ⊥) → (Rose (K.faults sink.old) (K.faults sink.new) → ⊥) → (result.status ≡ task.end) ⊎ (result.status ≡ Status.NoMemory) }
     ensures refused_too { (command : ProgramCommand) (input : List ℕ) (refused : StatusSeen) → asked_of (map string_bytes words.now) ≡ Ok command → S.left source.old ≡ Some input → length input ≤ max_input → task_of command input ≡ Err refused → (Rose (S.faults source.old) (S.faults source.new) → ⊥) → (result.status ≡ refused) ⊎ (result.status ≡ Status.NoMemory) }
-    ensures write_fault { result.status ≡ Status.WriteFault → (command : ProgramCommand) × (input : List ℕ) × (task : Task) × IsGiven (map string_bytes words.now) (S.left source.old) (S.left source.new) command input × (task_of command input ≡ Ok task) × IsCutOff command task (K.written sink.old) (K.written sink.new) result.rounds.items }
-    ensures no_memory { result.status ≡ Status.NoMemory → ((K.written sink.new ≡ K.written sink.old) × (result.rounds.items ≡ [])) ⊎ ((command : ProgramCommand) × (input : List ℕ) × (task : Task) × IsGiven (map string_bytes words.now) (S.left source.old) (S.left source.new) command input × (task_of command input ≡ Ok task) × AppendsPrefix (K.written sink.old) (K.written sink.new) (task.text result.rounds.items)) }
+    ensures write_fault { result.status ≡ Status.WriteFault → (command : ProgramCommand) × (input : List ℕ) × (task : Task) × IsGiven (asked_of (map string_bytes words.now)) (S.left source.old) (S.left source.new) command input × (task_of command input ≡ Ok task) × IsCutOff command task (K.written sink.old) (K.written sink.new) result.rounds.items }
+    ensures no_memory { result.status ≡ Status.NoMemory → ((K.written sink.new ≡ K.written sink.old) × (result.rounds.items ≡ [])) ⊎ ((command : ProgramCommand) × (input : List ℕ) × (task : Task) × IsGiven (asked_of (map string_bytes words.now)) (S.left source.old) (S.left source.new) command input × (task_of command input ≡ Ok task) × AppendsPrefix (K.written sink.old) (K.written sink.new) (task.text result.rounds.items)) }
     ensures nothing { (IsCompleted result.status → ⊥) → result.status ≢ Status.WriteFault → result.status ≢ Status.NoMemory → (K.written sink.new ≡ K.written sink.old) × (result.rounds.items ≡ []) }
     ensures words { (at : ℕ) → (result.status ≡ Status.WordsRefused at) ↔ (asked_of (map string_bytes words.now) ≡ Err at) }
     ensures too_long { result.status ≡ Status.ScriptTooLong → (bytes : List ℕ) × (length bytes ≡ max_input + 1) × Consumes (S.left source.old) (S.left source.new) bytes }
@@ -54,7 +54,7 @@ pub fn serve_serial<S: Source, K: Sink>(
         Ok(command) => command,
         Err(at) => return without_rounds(alloc, Status::WordsRefused { at }),
     };
-    match read_input(alloc, source) {
+    match read_input(alloc, &command, source) {
         Ok(input) => perform(alloc, &command, &input, sink),
         Err(status) => without_rounds(alloc, status),
     }

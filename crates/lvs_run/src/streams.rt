@@ -7,7 +7,7 @@ ghost use Rattle.lvs_types.specs.declared.status.Status.{Status as StatusSeen};
 ghost use Rattle.lvs_outside.specs.Faults.{AppendsPrefix};
 ghost use Rattle.lvs_outside.specs.Streams.{Holds};
 ghost use Rattle.lvs_model.specs.Tasks.{Task, task_of, AreBooksOf};
-ghost use Rattle.lvs_run.specs.Words.{asked_of};
+ghost use Rattle.lvs_run.specs.Words.{called_of};
 ghost use Rattle.lvs_run.specs.Stages.{IsCompleted, IsRefusal};
 ghost use Rattle.lvs_run.specs.Answers.{IsGiven, IsCarriedOut, IsCutOff};
 
@@ -41,15 +41,15 @@ pub fn serve_streams<R: Threads + Wait + Sync, I: Read, O: Write, G: Gate + Sync
     writer: O,
     gate: &G,
 ) -> Served<I, O>
-    ensures headline { IsCompleted result.done.status → (command : ProgramCommand) × (input : List ℕ) × (task : Task) × IsGiven (map string_bytes words.now) (I.remaining reader) result.source.left command input × (task_of command input ≡ Ok task) × IsCarriedOut task (O.contents writer) result.sink.handed result.done.status result.done.rounds.items }
-    ensures first { result.done.rounds.items ≢ [] → (command : ProgramCommand) × (input : List ℕ) × (task : Task) × IsGiven (map string_bytes words.now) (I.remaining reader) result.source.left command input × (task_of command input ≡ Ok task) × AreBooksOf task result.done.rounds.items }
-    ensures refusal { IsRefusal result.done.status → (command : ProgramCommand) × (input : List ℕ) × IsGiven (map string_bytes words.now) (I.remaining reader) result.source.left command input × (task_of command input ≡ Err result.done.status) }
-    ensures complete { (command : ProgramCommand) (input : List ℕ) (task : Task) → asked_of (map string_bytes words.now) ≡ Ok command → I.remaining reader ≡ Some input → length input ≤ max_input → task_of command input ≡ Ok task → result.source.faults ≡ 0 → result.sink.faults ≡ 0 → (result.done.status ≡ task.end) ⊎ (result.done.status ≡ Status.NoMemory) }
-    ensures refused_too { (command : ProgramCommand) (input : List ℕ) (refused : StatusSeen) → asked_of (map string_bytes words.now) ≡ Ok command → I.remaining reader ≡ Some input → length input ≤ max_input → task_of command input ≡ Err refused → result.source.faults ≡ 0 → (result.done.status ≡ refused) ⊎ (result.done.status ≡ Status.NoMemory) }
-    ensures write_fault { result.done.status ≡ Status.WriteFault → (command : ProgramCommand) × (input : List ℕ) × (task : Task) × IsGiven (map string_bytes words.now) (I.remaining reader) result.source.left command input × (task_of command input ≡ Ok task) × IsCutOff command task (O.contents writer) result.sink.written result.done.rounds.items }
-    ensures no_memory { result.done.status ≡ Status.NoMemory → ((result.sink.handed ≡ O.contents writer) × (result.done.rounds.items ≡ [])) ⊎ ((command : ProgramCommand) × (input : List ℕ) × (task : Task) × IsGiven (map string_bytes words.now) (I.remaining reader) result.source.left command input × (task_of command input ≡ Ok task) × AppendsPrefix (O.contents writer) result.sink.handed (task.text result.done.rounds.items)) }
+    ensures headline { IsCompleted result.done.status → (command : ProgramCommand) × (input : List ℕ) × (task : Task) × IsGiven (called_of (map string_bytes words.now)) (I.remaining reader) result.source.left command input × (task_of command input ≡ Ok task) × IsCarriedOut task (O.contents writer) result.sink.handed result.done.status result.done.rounds.items }
+    ensures first { result.done.rounds.items ≢ [] → (command : ProgramCommand) × (input : List ℕ) × (task : Task) × IsGiven (called_of (map string_bytes words.now)) (I.remaining reader) result.source.left command input × (task_of command input ≡ Ok task) × AreBooksOf task result.done.rounds.items }
+    ensures refusal { IsRefusal result.done.status → (command : ProgramCommand) × (input : List ℕ) × IsGiven (called_of (map string_bytes words.now)) (I.remaining reader) result.source.left command input × (task_of command input ≡ Err result.done.status) }
+    ensures complete { (command : ProgramCommand) (input : List ℕ) (task : Task) → called_of (map string_bytes words.now) ≡ Ok command → I.remaining reader ≡ Some input → length input ≤ max_input → task_of command input ≡ Ok task → result.source.faults ≡ 0 → result.sink.faults ≡ 0 → (result.done.status ≡ task.end) ⊎ (result.done.status ≡ Status.NoMemory) }
+    ensures refused_too { (command : ProgramCommand) (input : List ℕ) (refused : StatusSeen) → called_of (map string_bytes words.now) ≡ Ok command → I.remaining reader ≡ Some input → length input ≤ max_input → task_of command input ≡ Err refused → result.source.faults ≡ 0 → (result.done.status ≡ refused) ⊎ (result.done.status ≡ Status.NoMemory) }
+    ensures write_fault { result.done.status ≡ Status.WriteFault → (command : ProgramCommand) × (input : List ℕ) × (task : Task) × IsGiven (called_of (map string_bytes words.now)) (I.remaining reader) result.source.left command input × (task_of command input ≡ Ok task) × IsCutOff command task (O.contents writer) result.sink.written result.done.rounds.items }
+    ensures no_memory { result.done.status ≡ Status.NoMemory → ((result.sink.handed ≡ O.contents writer) × (result.done.rounds.items ≡ [])) ⊎ ((command : ProgramCommand) × (input : List ℕ) × (task : Task) × IsGiven (called_of (map string_bytes words.now)) (I.remaining reader) result.source.left command input × (task_of command input ≡ Ok task) × AppendsPrefix (O.contents writer) result.sink.handed (task.text result.done.rounds.items)) }
     ensures nothing { (IsCompleted result.done.status → ⊥) → result.done.status ≢ Status.WriteFault → result.done.status ≢ Status.NoMemory → (result.sink.handed ≡ O.contents writer) × (result.done.rounds.items ≡ []) }
-    ensures words { (at : ℕ) → (result.done.status ≡ Status.WordsRefused at) ↔ (asked_of (map string_bytes words.now) ≡ Err at) }
+    ensures words { (at : ℕ) → (result.done.status ≡ Status.WordsRefused at) ↔ (called_of (map string_bytes words.now) ≡ Err at) }
     ensures too_long { result.done.status ≡ Status.ScriptTooLong → (bytes : List ℕ) × (length bytes ≡ max_input + 1) × Consumes (I.remaining reader) result.source.left bytes }
     ensures short { result.done.status ≢ Status.ScriptTooLong → result.done.status ≢ Status.NoMemory → (bytes : List ℕ) × (length bytes ≤ max_input) × Consumes (I.remaining reader) result.source.left bytes }
     ensures limit { (bytes : List ℕ) × (length bytes ≤ max_input + 1) × Consumes (I.remaining reader) result.source.left bytes }

@@ -2,8 +2,10 @@ use Rattle.std.proofs.Common.{List, [], ◌∷◌, ◌++◌, length, ◌∙◌, 
 use Rattle.lvs_types.specs.declared.book.RoundBook.{RoundBook}
 use Rattle.lvs_model.specs.ScriptLimits.{AreMoments}
 use Rattle.lvs_run.specs.Limits.{steps_in}
+use Rattle.lvs_run.specs.Ways.{serial_way}
 use Rattle.lvs_run.specs.Written.{all_written_of}
 use Rattle.lvs_run.proofs.Books.{all_but_last, appends_book, part_whole, part_without_last}
+use Rattle.lvs_run.proofs.LegalLemmas.{played_serial}
 use Rattle.lvs_run.proofs.Runs.{next_round, played_on}
 use Rattle.lvs_run.proofs.rounds.play_rounds.Goals as goal
 
@@ -22,14 +24,14 @@ returns-in_default-clause-written g c =
     rw c.reserve.ensures.items (part_whole (g.K.Sink.written c.args.sink.now) (g.K.Sink.written c.loop-round.sink) (all_written_of c.args.output c.loop-round.books.items) c.loop-round.invariant.written)
 
 pub returns-in-Prefix-clause-played : goal.returns-in-Prefix-clause-played
-returns-in-Prefix-clause-played g c = (c.play_round.new.director.state, played_on c.args.director.now.state c.args.rounds.now c.loop-round.books.items c.push_reserved.new.self.items c.loop-round.round-index c.len.result c.round-item.result c.in-Ok.book c.loop-round.director.state c.play_round.new.director.state c.loop-round.invariant.played c.loop-round.invariant.count (next_round c.args.rounds.now c.loop-round.round-index c.round-item.result c.loop-round-test.true c.round-item.is) (omega (arith, c.len.ensures, c.reserve.new.self.ok.0, ap length c.reserve.ensures.items, c.loop-round.invariant.count)) (c.push_reserved.ensures.items ∙ ap (λ (l : List RoundBook). l ++ c.in-Ok.book ∷ []) c.reserve.ensures.items) c.in-Ok.ensures.book)
+returns-in-Prefix-clause-played g c = (c.play_round.new.director.state, played_on serial_way c.args.director.now.state c.args.rounds.now c.loop-round.books.items c.push_reserved.new.self.items c.loop-round.round-index c.len.result c.round-item.result c.in-Ok.book c.loop-round.director.state c.play_round.new.director.state c.loop-round.invariant.played c.loop-round.invariant.count (next_round c.args.rounds.now c.loop-round.round-index c.round-item.result c.loop-round-test.true c.round-item.is) (omega (arith, c.len.ensures, c.reserve.new.self.ok.0, ap length c.reserve.ensures.items, c.loop-round.invariant.count)) (c.push_reserved.ensures.items ∙ ap (λ (l : List RoundBook). l ++ c.in-Ok.book ∷ []) c.reserve.ensures.items) (played_serial c.len.result c.round-item.result c.loop-round.director.state c.in-Ok.book c.play_round.new.director.state c.in-Ok.ensures.book))
 
 pub returns-in-Prefix-clause-written : goal.returns-in-Prefix-clause-written
 returns-in-Prefix-clause-written g c =
     rw (c.push_reserved.ensures.items, c.reserve.ensures.items) (all_but_last c.args.output (g.K.Sink.written c.args.sink.now) (g.K.Sink.written c.loop-round.sink) (g.K.Sink.written c.write_round-wrote.new.sink) c.loop-round.books.items c.in-Ok.book c.loop-round.invariant.written c.in-Prefix.ensures.text)
 
 pub returns-in-NoMemory-clause-played : goal.returns-in-NoMemory-clause-played
-returns-in-NoMemory-clause-played g c = (c.play_round.new.director.state, played_on c.args.director.now.state c.args.rounds.now c.loop-round.books.items c.push_reserved.new.self.items c.loop-round.round-index c.len.result c.round-item.result c.in-Ok.book c.loop-round.director.state c.play_round.new.director.state c.loop-round.invariant.played c.loop-round.invariant.count (next_round c.args.rounds.now c.loop-round.round-index c.round-item.result c.loop-round-test.true c.round-item.is) (omega (arith, c.len.ensures, c.reserve.new.self.ok.0, ap length c.reserve.ensures.items, c.loop-round.invariant.count)) (c.push_reserved.ensures.items ∙ ap (λ (l : List RoundBook). l ++ c.in-Ok.book ∷ []) c.reserve.ensures.items) c.in-Ok.ensures.book)
+returns-in-NoMemory-clause-played g c = (c.play_round.new.director.state, played_on serial_way c.args.director.now.state c.args.rounds.now c.loop-round.books.items c.push_reserved.new.self.items c.loop-round.round-index c.len.result c.round-item.result c.in-Ok.book c.loop-round.director.state c.play_round.new.director.state c.loop-round.invariant.played c.loop-round.invariant.count (next_round c.args.rounds.now c.loop-round.round-index c.round-item.result c.loop-round-test.true c.round-item.is) (omega (arith, c.len.ensures, c.reserve.new.self.ok.0, ap length c.reserve.ensures.items, c.loop-round.invariant.count)) (c.push_reserved.ensures.items ∙ ap (λ (l : List RoundBook). l ++ c.in-Ok.book ∷ []) c.reserve.ensures.items) (played_serial c.len.result c.round-item.result c.loop-round.director.state c.in-Ok.book c.play_round.new.director.state c.in-Ok.ensures.book))
 
 pub returns-in-NoMemory-clause-written : goal.returns-in-NoMemory-clause-written
 returns-in-NoMemory-clause-written g c =
@@ -44,7 +46,7 @@ pub loop-round-preserved : goal.loop-round-preserved
 loop-round-preserved g c = record {
   written = rw (c.push_reserved.ensures.items, c.reserve.ensures.items) (appends_book c.args.output (g.K.Sink.written c.args.sink.now) (g.K.Sink.written c.loop-round.sink) (g.K.Sink.written c.write_round-wrote.new.sink) c.loop-round.books.items c.in-Ok.book c.loop-round.invariant.written c.in-All.ensures.text);
   kept = c.in-All.ensures.cause ∙ c.loop-round.invariant.kept;
-  played = played_on c.args.director.now.state c.args.rounds.now c.loop-round.books.items c.push_reserved.new.self.items c.loop-round.round-index c.len.result c.round-item.result c.in-Ok.book c.loop-round.director.state c.play_round.new.director.state c.loop-round.invariant.played c.loop-round.invariant.count (next_round c.args.rounds.now c.loop-round.round-index c.round-item.result c.loop-round-test.true c.round-item.is) (omega (arith, c.len.ensures, c.reserve.new.self.ok.0, ap length c.reserve.ensures.items, c.loop-round.invariant.count)) (c.push_reserved.ensures.items ∙ ap (λ (l : List RoundBook). l ++ c.in-Ok.book ∷ []) c.reserve.ensures.items) c.in-Ok.ensures.book;
+  played = played_on serial_way c.args.director.now.state c.args.rounds.now c.loop-round.books.items c.push_reserved.new.self.items c.loop-round.round-index c.len.result c.round-item.result c.in-Ok.book c.loop-round.director.state c.play_round.new.director.state c.loop-round.invariant.played c.loop-round.invariant.count (next_round c.args.rounds.now c.loop-round.round-index c.round-item.result c.loop-round-test.true c.round-item.is) (omega (arith, c.len.ensures, c.reserve.new.self.ok.0, ap length c.reserve.ensures.items, c.loop-round.invariant.count)) (c.push_reserved.ensures.items ∙ ap (λ (l : List RoundBook). l ++ c.in-Ok.book ∷ []) c.reserve.ensures.items) (played_serial c.len.result c.round-item.result c.loop-round.director.state c.in-Ok.book c.play_round.new.director.state c.in-Ok.ensures.book);
   count = omega (arith, c.loop-round.invariant.count, ap length c.push_reserved.ensures.items, ap length c.reserve.ensures.items, length-append c.reserve.new.self.items (c.in-Ok.book ∷ []));
   moments = (subst AreMoments (next_round c.args.rounds.now c.loop-round.round-index c.round-item.result c.loop-round-test.true c.round-item.is) c.loop-round.invariant.moments).1;
   young = omega (arith, c.loop-round.invariant.young, c.in-Ok.ensures.steps, ap steps_in (next_round c.args.rounds.now c.loop-round.round-index c.round-item.result c.loop-round-test.true c.round-item.is));

@@ -10,33 +10,33 @@ use Rattle.lvs_run.proofs.serial.serve_serial.Goals as goal
 pub returns-in-Ok-read_input-clause-headline : goal.returns-in-Ok-read_input-clause-headline
 returns-in-Ok-read_input-clause-headline g c = λ is.
     let all = completed_of c.in-Ok.command (task_of c.in-Ok.command c.in-Ok-read_input.input.items) (g.K.Sink.written c.args.sink.now) (g.K.Sink.written c.perform.new.sink) c.perform.result.status c.perform.result.rounds.items (subst (λ (b : List ℕ). IsAnswer c.in-Ok.command (task_of c.in-Ok.command b) (g.K.Sink.written c.args.sink.now) (g.K.Sink.written c.perform.new.sink) c.perform.result.status c.perform.result.rounds.items) c.deref.ensures.value c.perform.ensures.answer) is in
-    (c.in-Ok.command, c.in-Ok-read_input.input.items, all.0, (record { asked = sym c.in-Ok.ensures.value; read = c.in-Ok-read_input.ensures.whole; end = c.in-Ok-read_input.ensures.end }), all.1, all.2)
+    (c.in-Ok.command, c.in-Ok-read_input.input.items, all.0, (record { asked_for = sym c.in-Ok.ensures.value; read = c.in-Ok-read_input.ensures.read }), all.1, all.2)
 
 pub returns-in-Ok-read_input-clause-first : goal.returns-in-Ok-read_input-clause-first
 returns-in-Ok-read_input-clause-first g c = λ is.
     let all = first_of c.in-Ok.command (task_of c.in-Ok.command c.in-Ok-read_input.input.items) (g.K.Sink.written c.args.sink.now) (g.K.Sink.written c.perform.new.sink) c.perform.result.status c.perform.result.rounds.items (subst (λ (b : List ℕ). IsAnswer c.in-Ok.command (task_of c.in-Ok.command b) (g.K.Sink.written c.args.sink.now) (g.K.Sink.written c.perform.new.sink) c.perform.result.status c.perform.result.rounds.items) c.deref.ensures.value c.perform.ensures.answer) is in
-    (c.in-Ok.command, c.in-Ok-read_input.input.items, all.0, (record { asked = sym c.in-Ok.ensures.value; read = c.in-Ok-read_input.ensures.whole; end = c.in-Ok-read_input.ensures.end }), all.1, all.2)
+    (c.in-Ok.command, c.in-Ok-read_input.input.items, all.0, (record { asked_for = sym c.in-Ok.ensures.value; read = c.in-Ok-read_input.ensures.read }), all.1, all.2)
 
 pub returns-in-Ok-read_input-clause-refusal : goal.returns-in-Ok-read_input-clause-refusal
 returns-in-Ok-read_input-clause-refusal g c = λ is.
-    (c.in-Ok.command, c.in-Ok-read_input.input.items, (record { asked = sym c.in-Ok.ensures.value; read = c.in-Ok-read_input.ensures.whole; end = c.in-Ok-read_input.ensures.end }), refusal_of c.in-Ok.command (task_of c.in-Ok.command c.in-Ok-read_input.input.items) (g.K.Sink.written c.args.sink.now) (g.K.Sink.written c.perform.new.sink) c.perform.result.status c.perform.result.rounds.items (subst (λ (b : List ℕ). IsAnswer c.in-Ok.command (task_of c.in-Ok.command b) (g.K.Sink.written c.args.sink.now) (g.K.Sink.written c.perform.new.sink) c.perform.result.status c.perform.result.rounds.items) c.deref.ensures.value c.perform.ensures.answer) is)
+    (c.in-Ok.command, c.in-Ok-read_input.input.items, (record { asked_for = sym c.in-Ok.ensures.value; read = c.in-Ok-read_input.ensures.read }), refusal_of c.in-Ok.command (task_of c.in-Ok.command c.in-Ok-read_input.input.items) (g.K.Sink.written c.args.sink.now) (g.K.Sink.written c.perform.new.sink) c.perform.result.status c.perform.result.rounds.items (subst (λ (b : List ℕ). IsAnswer c.in-Ok.command (task_of c.in-Ok.command b) (g.K.Sink.written c.args.sink.now) (g.K.Sink.written c.perform.new.sink) c.perform.result.status c.perform.result.rounds.items) c.deref.ensures.value c.perform.ensures.answer) is)
 
 pub returns-in-Ok-read_input-clause-complete : goal.returns-in-Ok-read_input-clause-complete
 returns-in-Ok-read_input-clause-complete g c = λ command input task good told short is calm quiet.
-    complete_after (g.S.Source.left c.args.source.now) (g.S.Source.left c.read_input.new.source) (g.K.Sink.written c.args.sink.now) (g.K.Sink.written c.perform.new.sink) (asked_of (map string_bytes c.args.words.now)) c.in-Ok.command command c.in-Ok-read_input.input.items input task c.perform.result.status c.perform.result.rounds.items (sym c.in-Ok.ensures.value) good c.in-Ok-read_input.ensures.whole c.in-Ok-read_input.ensures.end told is (subst (λ (b : List ℕ). IsAnswer c.in-Ok.command (task_of c.in-Ok.command b) (g.K.Sink.written c.args.sink.now) (g.K.Sink.written c.perform.new.sink) c.perform.result.status c.perform.result.rounds.items) c.deref.ensures.value c.perform.ensures.answer) (λ fault. quiet (c.perform.ensures.rose fault))
+    complete_after (asked_of (map string_bytes c.args.words.now)) (g.S.Source.left c.args.source.now) (g.S.Source.left c.read_input.new.source) (g.K.Sink.written c.args.sink.now) (g.K.Sink.written c.perform.new.sink) c.in-Ok.command command c.in-Ok-read_input.input.items input task c.perform.result.status c.perform.result.rounds.items (record { asked_for = sym c.in-Ok.ensures.value; read = c.in-Ok-read_input.ensures.read }) good told is (subst (λ (b : List ℕ). IsAnswer c.in-Ok.command (task_of c.in-Ok.command b) (g.K.Sink.written c.args.sink.now) (g.K.Sink.written c.perform.new.sink) c.perform.result.status c.perform.result.rounds.items) c.deref.ensures.value c.perform.ensures.answer) (λ fault. quiet (c.perform.ensures.rose fault))
 
 pub returns-in-Ok-read_input-clause-refused_too : goal.returns-in-Ok-read_input-clause-refused_too
 returns-in-Ok-read_input-clause-refused_too g c = λ command input refused good told short is calm.
-    refused_after (g.S.Source.left c.args.source.now) (g.S.Source.left c.read_input.new.source) (g.K.Sink.written c.args.sink.now) (g.K.Sink.written c.perform.new.sink) (asked_of (map string_bytes c.args.words.now)) c.in-Ok.command command c.in-Ok-read_input.input.items input refused c.perform.result.status c.perform.result.rounds.items (sym c.in-Ok.ensures.value) good c.in-Ok-read_input.ensures.whole c.in-Ok-read_input.ensures.end told is (subst (λ (b : List ℕ). IsAnswer c.in-Ok.command (task_of c.in-Ok.command b) (g.K.Sink.written c.args.sink.now) (g.K.Sink.written c.perform.new.sink) c.perform.result.status c.perform.result.rounds.items) c.deref.ensures.value c.perform.ensures.answer)
+    refused_after (asked_of (map string_bytes c.args.words.now)) (g.S.Source.left c.args.source.now) (g.S.Source.left c.read_input.new.source) (g.K.Sink.written c.args.sink.now) (g.K.Sink.written c.perform.new.sink) c.in-Ok.command command c.in-Ok-read_input.input.items input refused c.perform.result.status c.perform.result.rounds.items (record { asked_for = sym c.in-Ok.ensures.value; read = c.in-Ok-read_input.ensures.read }) good told is (subst (λ (b : List ℕ). IsAnswer c.in-Ok.command (task_of c.in-Ok.command b) (g.K.Sink.written c.args.sink.now) (g.K.Sink.written c.perform.new.sink) c.perform.result.status c.perform.result.rounds.items) c.deref.ensures.value c.perform.ensures.answer)
 
 pub returns-in-Ok-read_input-clause-write_fault : goal.returns-in-Ok-read_input-clause-write_fault
 returns-in-Ok-read_input-clause-write_fault g c = λ is.
     let all = cut_of c.in-Ok.command (task_of c.in-Ok.command c.in-Ok-read_input.input.items) (g.K.Sink.written c.args.sink.now) (g.K.Sink.written c.perform.new.sink) c.perform.result.status c.perform.result.rounds.items (subst (λ (b : List ℕ). IsAnswer c.in-Ok.command (task_of c.in-Ok.command b) (g.K.Sink.written c.args.sink.now) (g.K.Sink.written c.perform.new.sink) c.perform.result.status c.perform.result.rounds.items) c.deref.ensures.value c.perform.ensures.answer) is in
-    (c.in-Ok.command, c.in-Ok-read_input.input.items, all.0, (record { asked = sym c.in-Ok.ensures.value; read = c.in-Ok-read_input.ensures.whole; end = c.in-Ok-read_input.ensures.end }), all.1, all.2)
+    (c.in-Ok.command, c.in-Ok-read_input.input.items, all.0, (record { asked_for = sym c.in-Ok.ensures.value; read = c.in-Ok-read_input.ensures.read }), all.1, all.2)
 
 pub returns-in-Ok-read_input-clause-no_memory : goal.returns-in-Ok-read_input-clause-no_memory
 returns-in-Ok-read_input-clause-no_memory g c = λ is.
-    given_memory (map string_bytes c.args.words.now) (g.S.Source.left c.args.source.now) (g.S.Source.left c.read_input.new.source) c.in-Ok.command c.in-Ok-read_input.input.items (g.K.Sink.written c.args.sink.now) (g.K.Sink.written c.perform.new.sink) c.perform.result.rounds.items (record { asked = sym c.in-Ok.ensures.value; read = c.in-Ok-read_input.ensures.whole; end = c.in-Ok-read_input.ensures.end }) (memory_of c.in-Ok.command (task_of c.in-Ok.command c.in-Ok-read_input.input.items) (g.K.Sink.written c.args.sink.now) (g.K.Sink.written c.perform.new.sink) c.perform.result.status c.perform.result.rounds.items (subst (λ (b : List ℕ). IsAnswer c.in-Ok.command (task_of c.in-Ok.command b) (g.K.Sink.written c.args.sink.now) (g.K.Sink.written c.perform.new.sink) c.perform.result.status c.perform.result.rounds.items) c.deref.ensures.value c.perform.ensures.answer) is)
+    given_memory (asked_of (map string_bytes c.args.words.now)) (g.S.Source.left c.args.source.now) (g.S.Source.left c.read_input.new.source) c.in-Ok.command c.in-Ok-read_input.input.items (g.K.Sink.written c.args.sink.now) (g.K.Sink.written c.perform.new.sink) c.perform.result.rounds.items (record { asked_for = sym c.in-Ok.ensures.value; read = c.in-Ok-read_input.ensures.read }) (memory_of c.in-Ok.command (task_of c.in-Ok.command c.in-Ok-read_input.input.items) (g.K.Sink.written c.args.sink.now) (g.K.Sink.written c.perform.new.sink) c.perform.result.status c.perform.result.rounds.items (subst (λ (b : List ℕ). IsAnswer c.in-Ok.command (task_of c.in-Ok.command b) (g.K.Sink.written c.args.sink.now) (g.K.Sink.written c.perform.new.sink) c.perform.result.status c.perform.result.rounds.items) c.deref.ensures.value c.perform.ensures.answer) is)
 
 pub returns-in-Ok-read_input-clause-nothing : goal.returns-in-Ok-read_input-clause-nothing
 returns-in-Ok-read_input-clause-nothing g c = λ other calm room.
