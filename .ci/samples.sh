@@ -1,7 +1,7 @@
 #!/bin/sh
 # Runs the proved program on every sample of examples/ and compares what it writes with the report beside
-# it, asks `check` about that report, and runs the sample of a capture. Prints each difference, and ends
-# with 1 if there is one.
+# it, asks `check` about that report and about the reports of threads, and runs the sample of a capture and
+# a demonstration, twice. Prints each difference, and ends with 1 if there is one.
 #
 #     .ci/samples.sh [PROGRAM]
 #
@@ -32,10 +32,23 @@ for script in *.ipvs; do
     cmp -s "$name.report" "$room/report" || differ "$name" "the report isn't the one beside it"
     { cat "$script"; echo report; cat "$name.report"; } | "$program" check >"$room/verdict" 2>"$room/error"
     [ "$(cat "$room/verdict")" = legal ] || differ "$name" "the report beside it isn't legal"
+    for crew in "1 1" "4 16" "16 256"; do
+        # The words of a crew are to be split.
+        # shellcheck disable=SC2086
+        "$program" run $crew <"$script" >"$room/report" 2>"$room/error" || differ "$name" "$(head -n 1 "$room/error")"
+        { cat "$script"; echo report; cat "$room/report"; } | "$program" check >"$room/verdict" 2>"$room/error"
+        [ "$(cat "$room/verdict")" = legal ] || differ "$name" "the report of run $crew isn't legal"
+    done
 done
 
 { cat capture.ipvs; echo capture; cat capture.pcap; } | "$program" capture 192.168.0.0 16 1 >"$room/sent" 2>"$room/error"
 cmp -s capture.sent.pcap "$room/sent" || differ capture "what was sent isn't capture.sent.pcap"
+
+for run in first second; do
+    "$program" demo 20000 >"$room/$run" 2>"$room/error" || differ demo "$(head -n 1 "$room/error")"
+done
+cmp -s "$room/first" "$room/second" || differ demo "two runs have two summaries"
+grep -q '^forwarded 40000$' "$room/first" || differ demo "not every packet was sent on"
 
 if [ "$failures" -ne 0 ]; then
     echo "samples: $failures differences in $count samples"
