@@ -41,6 +41,19 @@ for script in *.ipvs; do
     done
 done
 
+# A printed sample gives the report of the sample: a capture of no packets, the head of a file, adds nothing.
+printer=$root/crates/ipvsd_script/out/ipvsd_script
+if [ -x "$printer" ]; then
+    head -c 24 capture.pcap >"$room/none"
+    for script in *.ipvs; do
+        { cat "$script"; echo capture; cat "$room/none"; } | "$printer" 0.0.0.0 32 1 >"$room/printed" 2>"$room/error" || differ "$script" "$(head -n 1 "$room/error")"
+        "$program" serial <"$room/printed" >"$room/report"
+        cmp -s "${script%.ipvs}.report" "$room/report" || differ "$script" "printed and run it gives another report"
+        { cat "$room/printed"; echo capture; cat "$room/none"; } | "$printer" 0.0.0.0 32 1 >"$room/again"
+        cmp -s "$room/printed" "$room/again" || differ "$script" "printed twice it differs"
+    done
+fi
+
 { cat capture.ipvs; echo capture; cat capture.pcap; } | "$program" capture 192.168.0.0 16 1 >"$room/sent" 2>"$room/error"
 cmp -s capture.sent.pcap "$room/sent" || differ capture "what was sent isn't capture.sent.pcap"
 

@@ -1,0 +1,12 @@
+pub mod Spaces
+pub mod Hexes
+pub mod Printed
+pub mod Packets
+pub mod Sysctls
+pub mod Ranges
+pub mod Said
+pub mod Keys
+pub mod ServiceWords
+pub mod ServerWords
+pub mod CommandLines
+pub mod ReadAgain
