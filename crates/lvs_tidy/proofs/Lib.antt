@@ -9,4 +9,6 @@ pub mod Keys
 pub mod ServiceWords
 pub mod ServerWords
 pub mod CommandLines
+pub mod Counted
 pub mod ReadAgain
+pub mod MoreRounds

@@ -46,7 +46,7 @@ number_again n low = ap (or_cause cause.BadNumber) (number_of-decimal 10 4294967
 abbrev packet_of : ℕ → List ℕ → Result ScriptLine ScriptCause
 packet_of mark bytes = Ok (line.Incoming mark bytes)
 
-incoming_made : (mark : ℕ) (bytes : List ℕ) → mark ≤ 4294967295 → AreBytes bytes → IsPrinted (line.Incoming mark bytes)
+pub incoming_made : (mark : ℕ) (bytes : List ℕ) → mark ≤ 4294967295 → AreBytes bytes → IsPrinted (line.Incoming mark bytes)
 incoming_made mark bytes low are = record {
   words = (number_is_word mark (omega arith), (hex_is_word bytes are, tt));
   read =
@@ -61,7 +61,7 @@ incoming_printed words l e =
     let bytes = then_ok (bytes_of both.0.1) (λ (b : List ℕ). packet_of mark.0 b) l mark.2 in
     line_is (line.Incoming mark.0 bytes.0) l bytes.2 (incoming_made mark.0 bytes.0 (number_low both.0.0 mark.0 mark.1) (bytes_given both.0.1 bytes.0 bytes.1))
 
-outgoing_made : (bytes : List ℕ) → AreBytes bytes → IsPrinted (line.Outgoing bytes)
+pub outgoing_made : (bytes : List ℕ) → AreBytes bytes → IsPrinted (line.Outgoing bytes)
 outgoing_made bytes are = record {
   words = (hex_is_word bytes are, tt);
   read = ap (λ (r : Result (List ℕ) ScriptCause). r >>= (λ (b : List ℕ). let made : Result ScriptLine ScriptCause = Ok (line.Outgoing b) in made)) (bytes_again bytes are);

@@ -21,11 +21,13 @@ use Rattle.lvs_model.specs.Refusals.{◌>>=◌}
 use Rattle.lvs_model.specs.Lines.{lines_of, words_of, is_readable, is_skipped}
 use Rattle.lvs_model.specs.Report.{addr_text}
 use Rattle.lvs_model.specs.Plans.{items_of_line}
+use Rattle.lvs_model.specs.ScriptLimits.{items_in}
 use Rattle.lvs_model.specs.Scripts.{line_name, line_named, ScriptRead, empty_script, open_round, rounds_read, refuse_if, or_cause, checked_place, one_word, number_given, round_line, with_line, take_local, checked_round, take_at, take_kind, take_line_words, take_line, at_line, take_lines, script_read, script_of}
 use Rattle.lvs_listing.proofs.Numerals.{addr_of-addr_text}
 use Rattle.lvs_listing.proofs.Wording.{AreWords, number_is_word, addr_is_word}
 use Rattle.lvs_laws.proofs.SaveNumbers.{IfGiven, addr_small}
 use Rattle.lvs_laws.proofs.SaveWords.{then_ok}
+use Rattle.lvs_tidy.proofs.Counted.{round_with, items_snoc, items_line}
 use Rattle.lvs_tidy.specs.ScriptTexts.{line_kind, line_words, spaced, line_text, remark_text, at_text, round_lines, rounds_lines, local_lines, script_lines, with_feeds, script_text}
 use Rattle.lvs_tidy.proofs.Spaces.{plain_words, line_taken, remark_skipped, ArePlain, lines_again, plain_append}
 use Rattle.lvs_tidy.proofs.Printed.{IsPrinted, name_is_word, name_is_plain, kind_taken, printed_taken}
@@ -55,9 +57,6 @@ taken_lines n (text ∷ a) s t e =
     ap (λ (r : Result ScriptRead ScriptCause). at_line n r >>= take_lines (n + 1) a) first.1 ∙ taken_lines (n + 1) a first.0 t first.2
 
 -- ROUNDS
-
-abbrev round_with : ℕ → List ScriptLine → Round
-round_with moment lines = record { moment = moment; lines = lines }
 
 lines_more : (ls : List ScriptLine) (l : ScriptLine) → map line_text (ls ++ l ∷ []) ≡ map line_text ls ++ line_text l ∷ []
 lines_more [] l = refl
@@ -102,11 +101,12 @@ IsSmall o = IfGiven (λ (a : Addr). a.number < 2 ^ 32) o
 pub record IsReadAgain (s : ScriptRead) : Type 0 where
   pub small : IsSmall s.local
   pub plain : ArePlain (texts_of s)
+  pub items : s.items ≡ items_in (rounds_read s)
   -- whatever stands in for the source of tunnels
   pub read : (o : Option Addr) → all_taken (texts_of s) (with_local o empty_script) ≡ Ok (with_local o s)
 
 nothing_read : IsReadAgain empty_script
-nothing_read = record { small = tt; plain = tt; read = λ o. refl }
+nothing_read = record { small = tt; plain = tt; items = refl; read = λ o. refl }
 
 -- A LINE OF A ROUND
 
@@ -114,24 +114,31 @@ with_line_by : (b : Bool) (made t : ScriptRead) → cond b (Ok made) (Err cause.
 with_line_by true made t e = (refl, read_is made t e)
 with_line_by false made t e = absurd cc
 
-line_step : (l : ScriptLine) (s t : ScriptRead) (moment : ℕ) → s.moment ≡ Some moment → with_line l s ≡ Ok t → IsPrinted l → IsReadAgain s → IsReadAgain t
-line_step l s t moment opened e is w =
-    let made : ScriptRead = record s { lines = s.lines ++ l ∷ []; items = s.items + length (items_of_line l) } in
-    let both = with_line_by (nat_le (s.items + length (items_of_line l)) max_items) made t e in
+abbrev pub lined : ScriptLine → ScriptRead → ScriptRead
+lined l s = record s { lines = s.lines ++ l ∷ []; items = s.items + length (items_of_line l) }
+
+pub line_again : (l : ScriptLine) (s : ScriptRead) (moment : ℕ) → s.moment ≡ Some moment → nat_le (s.items + length (items_of_line l)) max_items ≡ true → IsPrinted l → IsReadAgain s → IsReadAgain (lined l s)
+line_again l s moment opened fits is w =
+    let made : ScriptRead = lined l s in
     let grown : texts_of made ≡ texts_of s ++ line_text l ∷ [] = line_more s.closed s.moment moment s.lines l opened in
     let plain : ArePlain (texts_of made) = subst ArePlain (sym grown) (plain_append (texts_of s) (line_text l ∷ []) w.plain (plain_words (line_name (line_kind l)) (line_words l) (name_is_word (line_kind l)) is.words, tt)) in
     let taken : (o : Option Addr) → take_line (line_text l) (with_local o s) ≡ Ok (with_local o made) = λ o.
-        printed_taken l (with_local o s) moment opened is
-        ∙ ap (λ (b : Bool). let r : Result ScriptRead ScriptCause = cond b (Ok (with_local o made)) (Err cause.TooManyItems) in r) both.0 in
-    let again : IsReadAgain made = record {
+    printed_taken l (with_local o s) moment opened is
+    ∙ ap (λ (b : Bool). let r : Result ScriptRead ScriptCause = cond b (Ok (with_local o made)) (Err cause.TooManyItems) in r) fits in
+    record {
       small = w.small;
       plain = plain;
+      items = ap (λ (n : ℕ). n + length (items_of_line l)) w.items ∙ sym (items_line s.closed s.moment moment s.lines l opened);
       read = λ o.
           ap (λ (texts : List (List ℕ)). all_taken texts (with_local o empty_script)) grown
           ∙ taken_append (texts_of s) (line_text l ∷ []) (with_local o empty_script) (with_local o s) (w.read o)
           ∙ ap (λ (r : Result ScriptRead ScriptCause). r >>= all_taken []) (taken o);
-    } in
-    subst (λ (x : ScriptRead). IsReadAgain x) both.1 again
+    }
+
+line_step : (l : ScriptLine) (s t : ScriptRead) (moment : ℕ) → s.moment ≡ Some moment → with_line l s ≡ Ok t → IsPrinted l → IsReadAgain s → IsReadAgain t
+line_step l s t moment opened e is w =
+    let both = with_line_by (nat_le (s.items + length (items_of_line l)) max_items) (lined l s) t e in
+    subst (λ (x : ScriptRead). IsReadAgain x) both.1 (line_again l s moment opened both.0 is w)
 
 -- A ROUND
 
@@ -154,7 +161,7 @@ remark_taken : (number moment : ℕ) (s : ScriptRead) → number < 2 ^ 64 → mo
 remark_taken number moment s small low =
     remark_skipped (codes "#") (codes "round" ∷ decimal number ∷ codes "at" ∷ decimal moment ∷ []) s (record { full = refl; graphic = refl; whole = refl }) (remark_words number moment small low) refl
 
-abbrev begun_at : ℕ → ScriptRead → ScriptRead
+abbrev pub begun_at : ℕ → ScriptRead → ScriptRead
 begun_at moment s = record s { closed = rounds_read s; moment = Some moment; lines = [] }
 
 abbrev at_checked : ℕ → ScriptRead → Result ScriptRead ScriptCause
@@ -167,6 +174,27 @@ at_taken moment s x low fits =
     ∙ ap (λ (r : Result ℕ ScriptCause). r >>= (λ (m : ℕ). at_checked m s)) (number_again moment low)
     ∙ ap (λ (r : Result (Unit {0}) ScriptCause). r >>= (λ (_ : Unit {0}). let next : Result ScriptRead ScriptCause = Ok (begun_at moment s) in next)) fits
 
+pub begun_again : (moment : ℕ) (s : ScriptRead) (x : Unit {0}) → moment ≤ 4294967295 → checked_round moment s ≡ Ok x → IsReadAgain s → IsReadAgain (begun_at moment s)
+begun_again moment s x low fits w =
+    let number : ℕ = 0 + length (rounds_read s) in
+    let few : length (rounds_read s) < 2 ^ 64 = few_by (length (rounds_read s)) (round_by (nat_lt moment (unwrap_or s.moment 0)) (nat_le max_rounds (length (rounds_read s))) x fits).1 in
+    let small : number < 2 ^ 64 = omega arith in
+    let made : ScriptRead = begun_at moment s in
+    let both : List (List ℕ) = remark_text number moment ∷ at_text moment ∷ [] in
+    let grown : texts_of made ≡ texts_of s ++ both = round_more 0 (rounds_read s) moment in
+    let remark_plain = plain_words (codes "#") (codes "round" ∷ decimal number ∷ codes "at" ∷ decimal moment ∷ []) (record { full = refl; graphic = refl; whole = refl }) (remark_words number moment small low) in
+    let at_plain = plain_words (line_name name.At) (decimal moment ∷ []) (name_is_word name.At) (at_words moment low) in
+    record {
+      small = w.small;
+      plain = subst ArePlain (sym grown) (plain_append (texts_of s) both w.plain (remark_plain, (at_plain, tt)));
+      items = omega (arith, w.items, items_snoc (rounds_read s) (round_with moment []));
+      read = λ o.
+          ap (λ (texts : List (List ℕ)). all_taken texts (with_local o empty_script)) grown
+          ∙ taken_append (texts_of s) both (with_local o empty_script) (with_local o s) (w.read o)
+          ∙ ap (λ (r : Result ScriptRead ScriptCause). r >>= all_taken (at_text moment ∷ [])) (remark_taken number moment (with_local o s) small low)
+          ∙ ap (λ (r : Result ScriptRead ScriptCause). r >>= all_taken []) (at_taken moment (with_local o s) x low fits);
+    }
+
 at_step : (words : List (List ℕ)) (s t : ScriptRead) → take_at words s ≡ Ok t → IsReadAgain s → IsReadAgain t
 at_step words s t e w =
     let word = then_ok (one_word words) (λ (x : List ℕ). number_given x >>= (λ (m : ℕ). at_checked m s)) t e in
@@ -174,24 +202,7 @@ at_step words s t e w =
     let moment = given.0 in
     let fits = then_ok (checked_round moment s) (λ (_ : Unit {0}). let next : Result ScriptRead ScriptCause = Ok (begun_at moment s) in next) t given.2 in
     let low : moment ≤ 4294967295 = number_low word.0 moment given.1 in
-    let number : ℕ = 0 + length (rounds_read s) in
-    let few : length (rounds_read s) < 2 ^ 64 = few_by (length (rounds_read s)) (round_by (nat_lt moment (unwrap_or s.moment 0)) (nat_le max_rounds (length (rounds_read s))) fits.0 fits.1).1 in
-    let small : number < 2 ^ 64 = omega arith in
-    let made : ScriptRead = begun_at moment s in
-    let both : List (List ℕ) = remark_text number moment ∷ at_text moment ∷ [] in
-    let grown : texts_of made ≡ texts_of s ++ both = round_more 0 (rounds_read s) moment in
-    let remark_plain = plain_words (codes "#") (codes "round" ∷ decimal number ∷ codes "at" ∷ decimal moment ∷ []) (record { full = refl; graphic = refl; whole = refl }) (remark_words number moment small low) in
-    let at_plain = plain_words (line_name name.At) (decimal moment ∷ []) (name_is_word name.At) (at_words moment low) in
-    let again : IsReadAgain made = record {
-      small = w.small;
-      plain = subst ArePlain (sym grown) (plain_append (texts_of s) both w.plain (remark_plain, (at_plain, tt)));
-      read = λ o.
-          ap (λ (texts : List (List ℕ)). all_taken texts (with_local o empty_script)) grown
-          ∙ taken_append (texts_of s) both (with_local o empty_script) (with_local o s) (w.read o)
-          ∙ ap (λ (r : Result ScriptRead ScriptCause). r >>= all_taken (at_text moment ∷ [])) (remark_taken number moment (with_local o s) small low)
-          ∙ ap (λ (r : Result ScriptRead ScriptCause). r >>= all_taken []) (at_taken moment (with_local o s) fits.0 low fits.1);
-    } in
-    subst (λ (x : ScriptRead). IsReadAgain x) (read_is made t fits.2) again
+    subst (λ (x : ScriptRead). IsReadAgain x) (read_is (begun_at moment s) t fits.2) (begun_again moment s fits.0 low fits.1 w)
 
 -- THE SOURCE OF TUNNELS
 
@@ -209,6 +220,7 @@ local_step words s t e w =
     let again : IsReadAgain (with_local (Some addr.0) s) = record {
       small = addr_small word.0 addr.0 (cause_some cause.BadAddress (addr_of word.0) addr.0 addr.1);
       plain = w.plain;
+      items = w.items;
       read = w.read;
     } in
     subst (λ (x : ScriptRead). IsReadAgain x) (read_is (with_local (Some addr.0) s) t addr.2) again
@@ -298,7 +310,7 @@ script_with s a = record { local = a; rounds = rounds_read s }
 abbrev ok_script : Script → Result Script BadLine
 ok_script script = Ok script
 
-state_again : (s : ScriptRead) → IsReadAgain s → script_of (script_text (script_read s)) ≡ Ok (script_read s)
+pub state_again : (s : ScriptRead) → IsReadAgain s → script_of (script_text (script_read s)) ≡ Ok (script_read s)
 state_again s w =
     let a : Addr = unwrap_or s.local nowhere in
     let none : Bool = a.number == 0 in
@@ -310,10 +322,19 @@ state_again s w =
     ∙ ap (λ (r : Result ScriptRead BadLine). r >>= (λ (x : ScriptRead). ok_script (script_read x))) (taken_lines 1 texts empty_script (with_local o s) read)
     ∙ ap (λ (x : Addr). ok_script (script_with s x)) (local_same none a (eqb-true a.number 0))
 
+-- a script that was read, and the state that its reading left
+pub record IsRead (script : Script) : Type 0 where
+  pub state : ScriptRead
+  pub again : IsReadAgain state
+  pub same : script_read state ≡ script
+
+pub read_state : (given : List ℕ) (script : Script) → script_of given ≡ Ok script → IsRead script
+read_state given script e =
+    let read = then_ok (take_lines 1 (lines_of given) empty_script) (λ (x : ScriptRead). ok_script (script_read x)) script e in
+    record { state = read.0; again = lines_step 1 (lines_of given) empty_script read.0 read.1 nothing_read; same = cc }
+
 -- a script that was read is printed as a text that is read as it
 pub script_again : (given : List ℕ) (script : Script) → script_of given ≡ Ok script → script_of (script_text script) ≡ Ok script
 script_again given script e =
-    let read = then_ok (take_lines 1 (lines_of given) empty_script) (λ (x : ScriptRead). ok_script (script_read x)) script e in
-    let s = read.0 in
-    let same : script_read s ≡ script = cc in
-    subst (λ (x : Script). script_of (script_text x) ≡ Ok x) same (state_again s (lines_step 1 (lines_of given) empty_script s read.1 nothing_read))
+    let read = read_state given script e in
+    subst (λ (x : Script). script_of (script_text x) ≡ Ok x) read.same (state_again read.state read.again)

@@ -1,7 +1,8 @@
 -- Words and lines that were put together are cut apart again.
-use Rattle.std.proofs.Common.{◌≡◌, ℕ, ◌+◌, Bool, true, false, cond, List, [], ◌∷◌, ◌++◌, Result, Ok, Err, refl, sym, ◌∙◌, ap, append_assoc, arith}
+use Rattle.std.proofs.Common.{◌≡◌, ℕ, suc, ◌+◌, ◌<◌, length, drop, get_or, add-one, Bool, true, false, cond, List, [], ◌∷◌, ◌++◌, Result, Ok, Err, refl, sym, ◌∙◌, ap, append_assoc, arith}
 use Rattle.std.specs.Prelude.{OnOk, IfOk}
 use Rattle.std.specs.List.{list_all}
+use Rattle.std.proofs.Math.Seq.{drop-cons}
 use Rattle.std.proofs.lemmas.List.{append-nil}
 use Rattle.std.proofs.lemmas.Bool.Decides.{nat_tests}
 use Rattle.lvs_types.specs.declared.script.Round.{Round}
@@ -39,6 +40,11 @@ pub spaced_line : (w : List ℕ) (vs : List (List ℕ)) → w ++ spaced vs ≡ l
 spaced_line w [] = append-nil w
 spaced_line w (v ∷ vs) = ap (λ (t : List ℕ). w ++ 32 ∷ t) (spaced_line v vs)
 
+-- the round at an index is the next one
+pub next_round : (rounds : List Round) (i : ℕ) (round : Round) → i < length rounds → round ≡ get_or rounds i round → drop i rounds ≡ round ∷ drop (i + 1) rounds
+next_round rounds i round within is =
+    rw add-one (drop-cons rounds i round within ∙ ap (λ (r : Round). r ∷ drop (suc i) rounds) (sym is))
+
 -- a round that was appended, of those that are left
 pub rounds_step : (before out whole : List ℕ) (n : ℕ) (r : Round) (rest all : List Round) → all ≡ r ∷ rest → out ≡ before ++ with_feeds (round_lines n r) → before ++ with_feeds (rounds_lines n all) ≡ whole → out ++ with_feeds (rounds_lines (n + 1) rest) ≡ whole
 rounds_step before out whole n r rest all cut put so_far =
@@ -58,7 +64,6 @@ words_again w vs is more = ap words_of (spaced_line w vs) ∙ words_of-line_with
 
 printable : (x : ℕ) → is_plain x ≡ true → is_printable x ≡ true
 printable x plain = grind (arith, nat_tests)
-
 
 -- a line of words is read by its words
 pub line_taken : (w : List ℕ) (vs : List (List ℕ)) (s : ScriptRead) → IsWord w → AreWords vs → is_comment w ≡ false → take_line (w ++ spaced vs) s ≡ take_line_words (w ∷ vs) s

@@ -69,10 +69,11 @@ two_said sysctl.SyncThreshold first second setting e =
     let threshold = then_ok (ok_or (number_between 0 2147483647 first) BadValue) (λ (t : ℕ). ok_or (number_between 0 2147483647 second) BadValue >>= (λ (p : ℕ). threshold_of t p)) setting e in
     let period = then_ok (ok_or (number_between 0 2147483647 second) BadValue) (λ (p : ℕ). threshold_of threshold.0 p) setting threshold.2 in
     let both = period_by ((period.0 == 0) || nat_lt threshold.0 period.0) (SyncThreshold threshold.0 period.0) setting period.2 in
-    subst (λ (x : Setting). IsSetting x) both.1
-    ((between 0 2147483647 first threshold.0 (given_some (number_between 0 2147483647 first) threshold.0 threshold.1)).1,
-    (between 0 2147483647 second period.0 (given_some (number_between 0 2147483647 second) period.0 period.1)).1,
-    both.0)
+    subst (λ (x : Setting). IsSetting x) both.1 (
+      (between 0 2147483647 first threshold.0 (given_some (number_between 0 2147483647 first) threshold.0 threshold.1)).1,
+      (between 0 2147483647 second period.0 (given_some (number_between 0 2147483647 second) period.0 period.1)).1,
+      both.0,
+    )
 
 values_said : (known : SysctlName) (values : List (List ℕ)) (setting : Setting) → setting_read known values ≡ Ok setting → IsSetting setting
 values_said known [] setting e = absurd cc

@@ -9,12 +9,7 @@ use crate::words::{put_endpoint_word, put_number_word, put_word};
 use lvs_types::{Addr, Command, NoMemory, ServiceKey, Setting};
 
 /// Appends `-d`, its service and its server.
-fn put_removal(
-    out: &mut Vec<u8>,
-    key: ServiceKey,
-    addr: Addr,
-    port: u16,
-) -> Result<(), NoMemory>
+fn put_removal(out: &mut Vec<u8>, key: ServiceKey, addr: Addr, port: u16) -> Result<(), NoMemory>
     ensures { OnOk result (out.new.items ≡ out.old.items ++ spaced (codes "-d" ∷ key_option key ∷ key_value key ∷ codes "-r" ∷ endpoint_text addr port ∷ [])) }
 {
     put_word(out, b"-d")?;

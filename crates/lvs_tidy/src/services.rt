@@ -79,7 +79,11 @@ fn put_mask(out: &mut Vec<u8>, bits: u8) -> Result<(), NoMemory>
 fn put_one_packet(out: &mut Vec<u8>, one_packet: bool) -> Result<(), NoMemory>
     ensures { OnOk result (out.new.items ≡ out.old.items ++ spaced (one_packet_words one_packet)) }
 {
-    if one_packet { put_word(out, b"-o") } else { Ok(()) }
+    if one_packet {
+        put_word(out, b"-o")
+    } else {
+        Ok(())
+    }
 }
 
 /// Appends the words behind `-A` and `-E`.

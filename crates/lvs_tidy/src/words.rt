@@ -29,11 +29,7 @@ pub(crate) fn put_addr_word(out: &mut Vec<u8>, addr: Addr) -> Result<(), NoMemor
     put_addr(out, addr)
 }
 
-pub(crate) fn put_endpoint_word(
-    out: &mut Vec<u8>,
-    addr: Addr,
-    port: u16,
-) -> Result<(), NoMemory>
+pub(crate) fn put_endpoint_word(out: &mut Vec<u8>, addr: Addr, port: u16) -> Result<(), NoMemory>
     ensures { OnOk result (out.new.items ≡ out.old.items ++ spaced (endpoint_text addr port ∷ [])) }
 {
     put(out, b" ")?;

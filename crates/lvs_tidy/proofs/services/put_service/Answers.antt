@@ -19,6 +19,6 @@ returns c =
     let masked = spaced_more out c.put_persist.new.out.items c.put_mask.new.out.items (front ++ persist_words s.persist) (mask_words s.mask_bits) lasting c.in_ok-put_mask.ensures in
     on_ok c.put_one_packet.result
     (λ last.
-        spaced_more out c.put_mask.new.out.items c.put_one_packet.new.out.items (front ++ persist_words s.persist ++ mask_words s.mask_bits) (one_packet_words s.one_packet) masked last
-        ∙ ap (λ (tail : List (List ℕ)). out ++ spaced (key_option s.key ∷ key_value s.key ∷ codes "-s" ∷ scheduler_name s.scheduler ∷ tail)) (append_assoc (persist_words s.persist) (mask_words s.mask_bits) (one_packet_words s.one_packet)))
+    spaced_more out c.put_mask.new.out.items c.put_one_packet.new.out.items (front ++ persist_words s.persist ++ mask_words s.mask_bits) (one_packet_words s.one_packet) masked last
+    ∙ ap (λ (tail : List (List ℕ)). out ++ spaced (key_option s.key ∷ key_value s.key ∷ codes "-s" ∷ scheduler_name s.scheduler ∷ tail)) (append_assoc (persist_words s.persist) (mask_words s.mask_bits) (one_packet_words s.one_packet)))
     c.put_one_packet.ensures
