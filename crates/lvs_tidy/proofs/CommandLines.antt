@@ -1,5 +1,5 @@
 -- The line of a command is printed as it is read.
-use Rattle.std.proofs.Common.{◌≡◌, ℕ, ◌+◌, ◌^◌, ◌<◌, ◌≤◌, List, [], ◌∷◌, length, Option, Some, None, Result, Ok, Err, refl, subst, ◌∙◌, ap, arith, lit<}
+use Rattle.std.proofs.Common.{◌≡◌, ℕ, ◌^◌, ◌<◌, ◌≤◌, List, [], ◌∷◌, Option, Some, Result, Ok, Err, refl, subst, ◌∙◌, ap, arith, lit<}
 use Rattle.std.specs.Prelude.{codes}
 use Rattle.std.specs.Fmt.{decimal}
 use Rattle.lvs_types.specs.declared.script.WordsCause.TheVariants as cause
@@ -14,7 +14,6 @@ use Rattle.lvs_types.specs.declared.command.Command.TheVariants as command
 use Rattle.lvs_types.specs.declared.script.ScriptLine.{ScriptLine}
 use Rattle.lvs_types.specs.declared.script.ScriptLine.TheVariants as line
 use Rattle.lvs_types.specs.declared.script.ScriptCause.{ScriptCause}
-use Rattle.lvs_model.specs.declared.admin.CommandName.{CommandName}
 use Rattle.lvs_model.specs.declared.admin.CommandName.TheVariants.{DeleteService, DeleteServer, SetTimeouts, StartDaemon}
 use Rattle.lvs_model.specs.declared.admin.OptionName.TheVariants as option
 use Rattle.lvs_model.specs.declared.admin.Awaited.TheVariants.{AnOption, FinWaitTimeout, UdpTimeout}
@@ -29,7 +28,7 @@ use Rattle.lvs_model.specs.AdminWords.{take_words, begun}
 use Rattle.lvs_model.specs.AdminLines.{settled, started, line_read, line_of_split, line_of_words}
 use Rattle.lvs_model.specs.Listings.{endpoint_text}
 use Rattle.lvs_model.specs.Scripts.{line_of_admin, round_line}
-use Rattle.lvs_listing.specs.Savable.{IsSayableKey, IsSayableService}
+use Rattle.lvs_listing.specs.Savable.{IsSayableKey}
 use Rattle.lvs_listing.proofs.Numerals.{number_between-decimal, endpoint_of-endpoint_text}
 use Rattle.lvs_listing.proofs.Wording.{AreWords, split_words-words, number_is_word, endpoint_is_word}
 use Rattle.lvs_listing.proofs.Taking.{taken, waits, of_key}

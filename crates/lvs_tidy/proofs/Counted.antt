@@ -1,14 +1,16 @@
--- How many items the rounds have that were read, and the moment of the last of them.
-use Rattle.std.proofs.Common.{◌≡◌, ℕ, ◌+◌, ◌-◌, ◌≤◌, List, [], ◌∷◌, ◌++◌, length, Option, Some, None, refl, ◌∙◌, ap, arith, length-append}
+-- The rounds that were read are within the limits: their items, their moments and their number.
+use Rattle.std.proofs.Common.{◌≡◌, ℕ, ◌+◌, ◌-◌, ◌≤◌, Bool, false, nat_le, List, [], ◌∷◌, ◌++◌, length, Option, Some, None, refl, ◌∙◌, ap, arith, length-append}
 use Rattle.std.specs.Prelude.{slice_get, unwrap_or}
 use Rattle.std.specs.List.{flat_map}
 use Rattle.std.specs.Option.{option_map_or}
 use Rattle.std.proofs.lemmas.Grind.{flat_map-append}
+use Rattle.std.proofs.lemmas.Bool.Decides.{nat_tests}
+use Rattle.lvs_types.specs.Limits.{max_rounds}
 use Rattle.lvs_types.specs.declared.script.Round.{Round}
 use Rattle.lvs_types.specs.declared.script.ScriptLine.{ScriptLine}
 use Rattle.lvs_model.specs.Captured.{last_moment}
 use Rattle.lvs_model.specs.Plans.{items_of_line, items_of_lines}
-use Rattle.lvs_model.specs.ScriptLimits.{items_in}
+use Rattle.lvs_model.specs.ScriptLimits.{AreMoments, items_in}
 use Rattle.lvs_model.specs.Scripts.{open_round}
 
 abbrev pub round_with : ℕ → List ScriptLine → Round
@@ -53,3 +55,28 @@ last_of rounds round =
 pub open_is_last : (closed : List Round) (o : Option ℕ) (lines : List ScriptLine) → unwrap_or o 0 ≤ last_moment (closed ++ open_round o lines)
 open_is_last closed None lines = omega arith
 open_is_last closed (Some m) lines = omega (arith, last_of closed (round_with m lines))
+
+moments_snoc : (rounds : List Round) (round : Round) → AreMoments rounds → round.moment ≤ 4294967295 → AreMoments (rounds ++ round ∷ [])
+moments_snoc [] round before is = (is, tt)
+moments_snoc (r ∷ rounds) round before is = (before.0, moments_snoc rounds round before.1 is)
+
+-- a round more
+pub moments_begun : (rounds : List Round) (moment : ℕ) → AreMoments rounds → moment ≤ 4294967295 → AreMoments (rounds ++ round_with moment [] ∷ [])
+moments_begun rounds moment before is = moments_snoc rounds (round_with moment []) before is
+
+-- a line more in the last round
+pub moments_line : (closed : List Round) (o : Option ℕ) (lines : List ScriptLine) (l : ScriptLine) → AreMoments (closed ++ open_round o lines) → AreMoments (closed ++ open_round o (lines ++ l ∷ []))
+moments_line [] None lines l are = tt
+moments_line [] (Some m) lines l are = are
+moments_line (r ∷ closed) o lines l are = (are.0, moments_line closed o lines l are.1)
+
+-- THEIR NUMBER
+
+pub count_line : (closed : List Round) (o : Option ℕ) (lines : List ScriptLine) (l : ScriptLine) → length (closed ++ open_round o (lines ++ l ∷ [])) ≡ length (closed ++ open_round o lines)
+count_line [] None lines l = refl
+count_line [] (Some m) lines l = refl
+count_line (r ∷ closed) o lines l = omega (arith, count_line closed o lines l)
+
+-- there is room for a round more
+pub room_by : (n : ℕ) → nat_le max_rounds n ≡ false → n + 1 ≤ max_rounds
+room_by n few = grind (arith, nat_tests)

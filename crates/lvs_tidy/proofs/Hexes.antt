@@ -1,5 +1,5 @@
 -- Bytes that hexadecimal digits spelled are spelled again by their lower-case digits.
-use Rattle.std.proofs.Common.{◌≡◌, ℕ, zero, suc, ◌+◌, ◌*◌, ◌/◌, ◌%◌, ◌<◌, Bool, true, false, not, ◌&&◌, ◌==◌, cond, nat_le, List, [], ◌∷◌, ◌++◌, length, get_or, map, drop, Option, Some, None, Result, Ok, Err, refl, subst, ap, ◌∙◌, arith, lit<}
+use Rattle.std.proofs.Common.{◌≡◌, ℕ, zero, suc, ◌*◌, ◌/◌, ◌%◌, ◌<◌, Bool, true, false, not, ◌&&◌, ◌==◌, cond, nat_le, List, [], ◌∷◌, length, get_or, map, drop, None, Result, Ok, Err, refl, ap, ◌∙◌, arith}
 use Rattle.std.specs.List.{list_all}
 use Rattle.std.specs.Char.{is_ascii_alphabetic}
 use Rattle.std.proofs.lemmas.Bool.Decides.{nat_tests}
@@ -9,7 +9,6 @@ use Rattle.hex.proofs.HexLemmas.{length-encode_with, decode_of-encode_lower, dec
 use Rattle.lvs_types.specs.declared.script.ScriptCause.{ScriptCause}
 use Rattle.lvs_types.specs.declared.script.ScriptCause.TheVariants as cause
 use Rattle.lvs_model.specs.Decimals.{cut_at}
-use Rattle.lvs_model.specs.Lines.{is_full}
 use Rattle.lvs_model.specs.AdminWords.{letter_word, split_word, split_assignment}
 use Rattle.lvs_model.specs.Scripts.{bytes_decoded, bytes_of}
 use Rattle.lvs_listing.proofs.Numerals.{both_true, first_true, second_true}

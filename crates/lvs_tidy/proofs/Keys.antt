@@ -1,5 +1,5 @@
 -- The words of a service's key are read as that key, whatever command they stand behind.
-use Rattle.std.proofs.Common.{◌≡◌, ℕ, ◌+◌, ◌^◌, ◌<◌, ◌≤◌, List, ◌∷◌, Option, Result, Ok, refl, ◌∙◌, ap, arith, lit<}
+use Rattle.std.proofs.Common.{◌≡◌, ℕ, ◌^◌, ◌<◌, ◌≤◌, List, ◌∷◌, Option, Ok, refl, ◌∙◌, ap, arith, lit<}
 use Rattle.std.specs.Prelude.{codes}
 use Rattle.std.specs.Fmt.{decimal}
 use Rattle.lvs_types.specs.declared.script.WordsCause.TheVariants as cause
@@ -11,7 +11,6 @@ use Rattle.lvs_model.specs.declared.admin.CommandName.{CommandName}
 use Rattle.lvs_model.specs.declared.admin.OptionName.TheVariants as option
 use Rattle.lvs_model.specs.declared.admin.GivenEndpoint.{GivenEndpoint}
 use Rattle.lvs_model.specs.declared.admin.WordsRead.{WordsRead}
-use Rattle.lvs_model.specs.declared.admin.BadWord.{BadWord}
 use Rattle.lvs_model.specs.Refusals.{◌>>=◌, needed}
 use Rattle.lvs_model.specs.AdminWords.{service_key_of, with_service, take_value, take_word, take_words, begun}
 use Rattle.lvs_model.specs.Listings.{endpoint_text}

@@ -1,5 +1,5 @@
 -- Rounds behind a script that was read: the text of all of it is read as all of it.
-use Rattle.std.proofs.Common.{◌≡◌, ℕ, ◌+◌, ◌≤◌, Bool, true, false, cond, List, [], ◌∷◌, ◌++◌, length, Option, Some, Result, Ok, Err, refl, sym, ap, subst, ◌∙◌, arith, nat_le, nat_lt, append_assoc, append-nil, length-append}
+use Rattle.std.proofs.Common.{◌≡◌, ℕ, ◌+◌, ◌≤◌, Bool, true, false, cond, List, [], ◌∷◌, ◌++◌, length, Option, Some, Ok, Err, refl, sym, ap, subst, ◌∙◌, arith, nat_le, nat_lt, append_assoc, append-nil, length-append}
 use Rattle.std.specs.Prelude.{unwrap_or}
 use Rattle.std.specs.List.{flat_map}
 use Rattle.std.proofs.lemmas.Bool.{le-leb}
@@ -9,9 +9,7 @@ use Rattle.lvs_types.specs.declared.addr.Addr.{Addr}
 use Rattle.lvs_types.specs.declared.script.Script.{Script}
 use Rattle.lvs_types.specs.declared.script.Round.{Round}
 use Rattle.lvs_types.specs.declared.script.ScriptLine.{ScriptLine}
-use Rattle.lvs_types.specs.declared.script.ScriptCause.{ScriptCause}
 use Rattle.lvs_types.specs.declared.script.ScriptCause.TheVariants as cause
-use Rattle.lvs_model.specs.declared.script.BadLine.{BadLine}
 use Rattle.lvs_model.specs.Captured.{last_moment}
 use Rattle.lvs_model.specs.Plans.{items_of_line, items_of_lines}
 use Rattle.lvs_model.specs.ScriptLimits.{AreMoments, items_in, IsWithinLimits}
@@ -19,7 +17,7 @@ use Rattle.lvs_model.specs.Scripts.{ScriptRead, open_round, rounds_read, refuse_
 use Rattle.lvs_tidy.specs.ScriptTexts.{script_text}
 use Rattle.lvs_tidy.proofs.Counted.{round_with, items_snoc, items_append, open_is_last}
 use Rattle.lvs_tidy.proofs.Printed.{IsPrinted}
-use Rattle.lvs_tidy.proofs.ReadAgain.{IsReadAgain, lined, line_again, begun_at, begun_again, state_again, IsRead, read_state}
+use Rattle.lvs_tidy.proofs.ReadAgain.{IsReadAgain, lined, line_again, begun_at, begun_again, state_again, read_state}
 
 -- moments that don't fall, from a moment on
 abbrev pub AreRising : ℕ → List Round → Type 0

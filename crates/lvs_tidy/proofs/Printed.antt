@@ -1,5 +1,5 @@
 -- What is printed of a line is read as that line.
-use Rattle.std.proofs.Common.{◌≡◌, ℕ, ◌^◌, ◌<◌, ◌≤◌, Bool, true, false, not, cond, List, [], ◌∷◌, ◌++◌, Option, Some, None, Result, Ok, Err, refl, ap, ◌∙◌, is_some}
+use Rattle.std.proofs.Common.{◌≡◌, ℕ, false, not, List, ◌∷◌, Option, Some, None, Result, Ok, refl, ap, ◌∙◌, is_some}
 use Rattle.lvs_types.specs.declared.book.Shown.TheVariants as shown
 use Rattle.lvs_types.specs.declared.script.ScriptLine.{ScriptLine}
 use Rattle.lvs_types.specs.declared.script.ScriptLine.TheVariants as line

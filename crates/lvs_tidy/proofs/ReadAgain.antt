@@ -1,8 +1,8 @@
 -- A script that was read is printed as a text that is read as the same script.
-use Rattle.std.proofs.Common.{◌≡◌, ℕ, ◌+◌, ◌^◌, ◌<◌, ◌≤◌, Bool, true, false, not, cond, ◌==◌, List, [], ◌∷◌, ◌++◌, length, map, Option, Some, None, Result, Ok, Err, refl, sym, subst, ap, ◌∙◌, arith, nat_le, nat_lt, is_some, append_assoc}
+use Rattle.std.proofs.Common.{◌≡◌, ℕ, ◌+◌, ◌^◌, ◌<◌, ◌≤◌, Bool, true, false, not, cond, ◌==◌, List, [], ◌∷◌, ◌++◌, length, map, Option, Some, None, Result, Ok, Err, refl, sym, subst, ap, ◌∙◌, arith, nat_le, nat_lt, is_some, append_assoc, length-append}
 use Rattle.std.specs.Prelude.{codes, unwrap_or}
 use Rattle.std.specs.Fmt.{decimal}
-use Rattle.std.proofs.lemmas.Bool.{eqb-true}
+use Rattle.std.proofs.lemmas.Bool.{eqb-true, leb-true}
 use Rattle.std.proofs.lemmas.Bool.Decides.{nat_tests}
 use Rattle.std.proofs.lemmas.List.{append-nil}
 use Rattle.lvs_types.specs.Limits.{max_rounds, max_items}
@@ -21,16 +21,16 @@ use Rattle.lvs_model.specs.Refusals.{◌>>=◌}
 use Rattle.lvs_model.specs.Lines.{lines_of, words_of, is_readable, is_skipped}
 use Rattle.lvs_model.specs.Report.{addr_text}
 use Rattle.lvs_model.specs.Plans.{items_of_line}
-use Rattle.lvs_model.specs.ScriptLimits.{items_in}
+use Rattle.lvs_model.specs.ScriptLimits.{items_in, IsWithinLimits}
 use Rattle.lvs_model.specs.Scripts.{line_name, line_named, ScriptRead, empty_script, open_round, rounds_read, refuse_if, or_cause, checked_place, one_word, number_given, round_line, with_line, take_local, checked_round, take_at, take_kind, take_line_words, take_line, at_line, take_lines, script_read, script_of}
 use Rattle.lvs_listing.proofs.Numerals.{addr_of-addr_text}
 use Rattle.lvs_listing.proofs.Wording.{AreWords, number_is_word, addr_is_word}
 use Rattle.lvs_laws.proofs.SaveNumbers.{IfGiven, addr_small}
 use Rattle.lvs_laws.proofs.SaveWords.{then_ok}
-use Rattle.lvs_tidy.proofs.Counted.{round_with, items_snoc, items_line}
-use Rattle.lvs_tidy.specs.ScriptTexts.{line_kind, line_words, spaced, line_text, remark_text, at_text, round_lines, rounds_lines, local_lines, script_lines, with_feeds, script_text}
+use Rattle.lvs_tidy.proofs.Counted.{round_with, items_snoc, items_line, moments_begun, moments_line, count_line, room_by}
+use Rattle.lvs_tidy.specs.ScriptTexts.{line_kind, line_words, spaced, line_text, remark_text, at_text, round_lines, rounds_lines, script_text}
 use Rattle.lvs_tidy.proofs.Spaces.{plain_words, line_taken, remark_skipped, ArePlain, lines_again, plain_append}
-use Rattle.lvs_tidy.proofs.Printed.{IsPrinted, name_is_word, name_is_plain, kind_taken, printed_taken}
+use Rattle.lvs_tidy.proofs.Printed.{IsPrinted, name_is_word, kind_taken, printed_taken}
 use Rattle.lvs_tidy.proofs.Packets.{number_low, number_again, incoming_printed, outgoing_printed, message_printed, list_made, conns_made, save_made, listing_printed, icmp_printed}
 use Rattle.lvs_tidy.proofs.Sysctls.{sysctl_printed}
 use Rattle.lvs_tidy.proofs.CommandLines.{command_printed}
@@ -102,11 +102,12 @@ pub record IsReadAgain (s : ScriptRead) : Type 0 where
   pub small : IsSmall s.local
   pub plain : ArePlain (texts_of s)
   pub items : s.items ≡ items_in (rounds_read s)
+  pub within : IsWithinLimits (rounds_read s)
   -- whatever stands in for the source of tunnels
   pub read : (o : Option Addr) → all_taken (texts_of s) (with_local o empty_script) ≡ Ok (with_local o s)
 
 nothing_read : IsReadAgain empty_script
-nothing_read = record { small = tt; plain = tt; items = refl; read = λ o. refl }
+nothing_read = record { small = tt; plain = tt; items = refl; within = record { moments = tt; items = omega arith; few = omega arith }; read = λ o. refl }
 
 -- A LINE OF A ROUND
 
@@ -125,10 +126,16 @@ line_again l s moment opened fits is w =
     let taken : (o : Option Addr) → take_line (line_text l) (with_local o s) ≡ Ok (with_local o made) = λ o.
     printed_taken l (with_local o s) moment opened is
     ∙ ap (λ (b : Bool). let r : Result ScriptRead ScriptCause = cond b (Ok (with_local o made)) (Err cause.TooManyItems) in r) fits in
+    let items : made.items ≡ items_in (rounds_read made) = ap (λ (n : ℕ). n + length (items_of_line l)) w.items ∙ sym (items_line s.closed s.moment moment s.lines l opened) in
     record {
       small = w.small;
       plain = plain;
-      items = ap (λ (n : ℕ). n + length (items_of_line l)) w.items ∙ sym (items_line s.closed s.moment moment s.lines l opened);
+      items = items;
+      within = record {
+        moments = moments_line s.closed s.moment s.lines l w.within.moments;
+        items = omega (arith, items, leb-true (s.items + length (items_of_line l)) max_items fits);
+        few = omega (arith, count_line s.closed s.moment s.lines l, w.within.few);
+      };
       read = λ o.
           ap (λ (texts : List (List ℕ)). all_taken texts (with_local o empty_script)) grown
           ∙ taken_append (texts_of s) (line_text l ∷ []) (with_local o empty_script) (with_local o s) (w.read o)
@@ -177,7 +184,8 @@ at_taken moment s x low fits =
 pub begun_again : (moment : ℕ) (s : ScriptRead) (x : Unit {0}) → moment ≤ 4294967295 → checked_round moment s ≡ Ok x → IsReadAgain s → IsReadAgain (begun_at moment s)
 begun_again moment s x low fits w =
     let number : ℕ = 0 + length (rounds_read s) in
-    let few : length (rounds_read s) < 2 ^ 64 = few_by (length (rounds_read s)) (round_by (nat_lt moment (unwrap_or s.moment 0)) (nat_le max_rounds (length (rounds_read s))) x fits).1 in
+    let some_room : nat_le max_rounds (length (rounds_read s)) ≡ false = (round_by (nat_lt moment (unwrap_or s.moment 0)) (nat_le max_rounds (length (rounds_read s))) x fits).1 in
+    let few : length (rounds_read s) < 2 ^ 64 = few_by (length (rounds_read s)) some_room in
     let small : number < 2 ^ 64 = omega arith in
     let made : ScriptRead = begun_at moment s in
     let both : List (List ℕ) = remark_text number moment ∷ at_text moment ∷ [] in
@@ -188,6 +196,11 @@ begun_again moment s x low fits w =
       small = w.small;
       plain = subst ArePlain (sym grown) (plain_append (texts_of s) both w.plain (remark_plain, (at_plain, tt)));
       items = omega (arith, w.items, items_snoc (rounds_read s) (round_with moment []));
+      within = record {
+        moments = moments_begun (rounds_read s) moment w.within.moments low;
+        items = omega (arith, w.within.items, items_snoc (rounds_read s) (round_with moment []));
+        few = omega (arith, room_by (length (rounds_read s)) some_room, length-append (rounds_read s) (round_with moment [] ∷ []));
+      };
       read = λ o.
           ap (λ (texts : List (List ℕ)). all_taken texts (with_local o empty_script)) grown
           ∙ taken_append (texts_of s) both (with_local o empty_script) (with_local o s) (w.read o)
@@ -221,6 +234,7 @@ local_step words s t e w =
       small = addr_small word.0 addr.0 (cause_some cause.BadAddress (addr_of word.0) addr.0 addr.1);
       plain = w.plain;
       items = w.items;
+      within = w.within;
       read = w.read;
     } in
     subst (λ (x : ScriptRead). IsReadAgain x) (read_is (with_local (Some addr.0) s) t addr.2) again
@@ -338,3 +352,9 @@ pub script_again : (given : List ℕ) (script : Script) → script_of given ≡ 
 script_again given script e =
     let read = read_state given script e in
     subst (λ (x : Script). script_of (script_text x) ≡ Ok x) read.same (state_again read.state read.again)
+
+-- a script that was read is within the limits
+pub read_within : (given : List ℕ) (script : Script) → script_of given ≡ Ok script → IsWithinLimits script.rounds
+read_within given script e =
+    let read = read_state given script e in
+    subst (λ (x : Script). IsWithinLimits x.rounds) read.same read.again.within

@@ -14,7 +14,7 @@ use Rattle.lvs_types.specs.declared.command.Line.TheVariants.{Edit}
 use Rattle.lvs_types.specs.declared.command.Command.{Command}
 use Rattle.lvs_types.specs.declared.command.Command.TheVariants as command
 use Rattle.lvs_model.specs.declared.admin.CommandName.{CommandName}
-use Rattle.lvs_model.specs.declared.admin.CommandName.TheVariants.{AddServer, EditServer, DeleteServer}
+use Rattle.lvs_model.specs.declared.admin.CommandName.TheVariants.{AddServer, EditServer}
 use Rattle.lvs_model.specs.declared.admin.OptionName.TheVariants as option
 use Rattle.lvs_model.specs.declared.admin.Awaited.TheVariants.{AnOption}
 use Rattle.lvs_model.specs.declared.admin.GivenEndpoint.{GivenEndpoint}
@@ -30,7 +30,7 @@ use Rattle.lvs_listing.proofs.Numerals.{number_between-decimal, endpoint_of-endp
 use Rattle.lvs_listing.proofs.Wording.{AreWords, IsWord, number_is_word, endpoint_is_word}
 use Rattle.lvs_listing.proofs.Taking.{taken, waits, of_key}
 use Rattle.lvs_laws.specs.Saying.{IsSayableSpec}
-use Rattle.lvs_tidy.specs.CommandWords.{key_option, key_value, threshold_words, server_words}
+use Rattle.lvs_tidy.specs.CommandWords.{key_option, key_value, server_words}
 use Rattle.lvs_tidy.proofs.Keys.{TakesKey, key_taken, option_is_word, value_is_word}
 
 -- -a, or -e

@@ -1,14 +1,11 @@
 -- The words of a service are read as the command that gives it.
-use Rattle.std.proofs.Common.{◌≡◌, ℕ, ◌+◌, ◌-◌, ◌^◌, ◌<◌, ◌≤◌, Bool, true, false, cond, ◌&&◌, ◌||◌, not, ◌==◌, List, [], ◌∷◌, ◌++◌, length, Option, Some, None, Result, Ok, refl, sym, ◌∙◌, ap, arith, lit<, is_some}
+use Rattle.std.proofs.Common.{◌≡◌, ℕ, ◌+◌, ◌-◌, ◌^◌, ◌<◌, ◌≤◌, Bool, true, false, cond, ◌&&◌, not, ◌==◌, List, [], ◌∷◌, ◌++◌, length, Option, Some, None, Result, Ok, refl, sym, ◌∙◌, ap, arith, lit<, is_some}
 use Rattle.std.specs.Prelude.{codes, unwrap_or}
 use Rattle.std.specs.Fmt.{decimal}
 use Rattle.std.proofs.lemmas.Bool.{eqb-true, eq-eqb}
 use Rattle.std.proofs.Math.Nat.{one-le-pow}
 use Rattle.lvs_types.specs.declared.script.WordsCause.TheVariants as cause
-use Rattle.lvs_types.specs.declared.addr.Addr.{Addr}
 use Rattle.lvs_types.specs.declared.service.ServiceKey.{ServiceKey}
-use Rattle.lvs_types.specs.declared.service.ServiceKey.TheVariants.{Net, Mark}
-use Rattle.lvs_types.specs.declared.service.Proto.TheVariants.{Tcp, Udp}
 use Rattle.lvs_types.specs.declared.service.Scheduler.{Scheduler}
 use Rattle.lvs_types.specs.declared.service.Service.{Service}
 use Rattle.lvs_types.specs.declared.service.Cursor.{Cursor}
@@ -27,12 +24,12 @@ use Rattle.lvs_model.specs.declared.admin.BadWord.{BadWord}
 use Rattle.lvs_model.specs.Refusals.{◌>>=◌, refused, needed, forbidden}
 use Rattle.lvs_model.specs.Report.{addr_text}
 use Rattle.lvs_model.specs.Edits.{fresh_cursor}
-use Rattle.lvs_model.specs.AdminWords.{is_tcp_service, take_option, take_value, take_word, take_words, take_all, begun}
+use Rattle.lvs_model.specs.AdminWords.{is_tcp_service, take_option, take_value, take_word, take_words, begun}
 use Rattle.lvs_model.specs.AdminLines.{is_portless, settled, line_read, line_of_split}
-use Rattle.lvs_model.specs.Listings.{endpoint_text, mask_addr}
-use Rattle.lvs_listing.specs.Savable.{IsSayableKey, IsSayablePersistence, IsSayableService}
+use Rattle.lvs_model.specs.Listings.{mask_addr}
+use Rattle.lvs_listing.specs.Savable.{IsSayablePersistence, IsSayableService}
 use Rattle.lvs_listing.proofs.Numerals.{is_number-decimal, number_between-decimal}
-use Rattle.lvs_listing.proofs.Wording.{IsWord, AreWords, number_is_word, addr_is_word}
+use Rattle.lvs_listing.proofs.Wording.{AreWords, number_is_word, addr_is_word}
 use Rattle.lvs_listing.proofs.Taking.{taken, waits, of_key, scheduler_is_word}
 use Rattle.lvs_listing.proofs.ServiceLines.{mask_of-mask_addr}
 use Rattle.lvs_tidy.specs.CommandWords.{key_option, key_value, persist_words, mask_words, one_packet_words, service_words}

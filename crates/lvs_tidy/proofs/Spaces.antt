@@ -6,7 +6,6 @@ use Rattle.std.proofs.Math.Seq.{drop-cons}
 use Rattle.std.proofs.lemmas.List.{append-nil}
 use Rattle.std.proofs.lemmas.Bool.Decides.{nat_tests}
 use Rattle.lvs_types.specs.declared.script.Round.{Round}
-use Rattle.lvs_types.specs.declared.script.ScriptCause.{ScriptCause}
 use Rattle.lvs_types.specs.declared.script.ScriptCause.TheVariants as cause
 use Rattle.lvs_model.specs.Lines.{lines_of, words_of, is_comment, is_skipped, is_readable, is_printable}
 use Rattle.lvs_model.specs.Scripts.{ScriptRead, take_line_words, take_line}

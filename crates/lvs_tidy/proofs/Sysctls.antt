@@ -8,20 +8,18 @@ use Rattle.lvs_types.specs.declared.script.SettingCause.{SettingCause}
 use Rattle.lvs_types.specs.declared.script.SettingCause.TheVariants.{UnknownName, BadValue}
 use Rattle.lvs_types.specs.declared.script.ScriptLine.{ScriptLine}
 use Rattle.lvs_types.specs.declared.script.ScriptLine.TheVariants as line
-use Rattle.lvs_types.specs.declared.script.ScriptCause.{ScriptCause}
 use Rattle.lvs_model.specs.declared.admin.SysctlName.{SysctlName}
 use Rattle.lvs_model.specs.declared.admin.SysctlName.TheVariants as sysctl
 use Rattle.lvs_model.specs.declared.script.LineName.TheVariants as name
 use Rattle.lvs_model.specs.Refusals.{◌>>=◌}
 use Rattle.lvs_model.specs.Decimals.{number_between}
-use Rattle.lvs_model.specs.SysctlWords.{sysctl_name, sysctl_of, one_value, threshold_of, two_values, setting_read, setting_of_words}
+use Rattle.lvs_model.specs.SysctlWords.{sysctl_of, one_value, threshold_of, two_values, setting_read, setting_of_words}
 use Rattle.lvs_model.specs.Scripts.{line_of_setting, round_line}
 use Rattle.lvs_listing.proofs.Numerals.{number_between-decimal}
 use Rattle.lvs_listing.proofs.Wording.{AreWords, number_is_word}
 use Rattle.lvs_laws.proofs.SaveNumbers.{between}
 use Rattle.lvs_laws.proofs.SaveWords.{then_ok}
 use Rattle.lvs_tidy.specs.CommandWords.{setting_words}
-use Rattle.lvs_tidy.proofs.Packets.{line_is}
 use Rattle.lvs_tidy.proofs.Printed.{IsPrinted}
 
 -- the values that words can say

@@ -1,11 +1,14 @@
 -- The script that is printed of an input: a script, a line `capture` and a capture file (this project's profile).
-use Rattle.std.specs.Prelude.{◌≡◌, ℕ, ◌≤◌, ◌<◌, List, Result, Ok, Err, codes}
+use Rattle.std.specs.Prelude.{◌≡◌, ◌≢◌, ℕ, List, [], ◌∷◌, Result, Ok, Err, codes}
+use Rattle.lvs_types.specs.declared.script.Round.{Round}
 use Rattle.lvs_types.specs.declared.script.Script.{Script}
+use Rattle.lvs_types.specs.declared.script.ScriptLine.{ScriptLine}
+use Rattle.lvs_types.specs.declared.script.ScriptLine.TheVariants as line
 use Rattle.lvs_types.specs.declared.status.Status.{Status}
 use Rattle.lvs_types.specs.declared.status.Status.TheVariants as status
 use Rattle.lvs_model.specs.Refusals.{◌>>=◌}
 use Rattle.lvs_model.specs.Inputs.{Parts, parts_of}
-use Rattle.lvs_model.specs.Tasks.{script_given, capture_given}
+use Rattle.lvs_model.specs.Tasks.{Task, script_given, capture_given, capture_task, serial_run}
 use Rattle.lvs_model.specs.CaptureFiles.{capture_of}
 use Rattle.lvs_model.specs.Captured.{captured}
 use Rattle.lvs_pcap.specs.declared.refused.CaptureRefused.{CaptureRefused}
@@ -22,9 +25,28 @@ script_in asked parts = do
 abbrev pub script_made : Asked → List ℕ → Result Script Status
 script_made asked input = script_in asked (parts_of (codes "capture") input)
 
--- a network of at most 32 bits, and rounds of a second or more
-abbrev pub CanBeAsked : Asked → Type 0
-CanBeAsked asked = (asked.bits ≤ 32) × (0 < asked.step)
+-- what `ipvsd capture` does with a script that an input makes: it plays it, and writes what was sent
+abbrev pub played : Result Script Status → Result Task Status
+played made = do
+  script ← made
+  Ok (capture_task (serial_run script))
+
+-- a packet has bytes; a script that was read has no packet without one, and a capture may
+abbrev pub HasBytes : ScriptLine → Type 0
+HasBytes (line.Incoming mark bytes) = bytes ≢ []
+HasBytes (line.Outgoing bytes) = bytes ≢ []
+HasBytes other = Unit {0}
+
+abbrev pub HaveBytes : List ScriptLine → Type 0
+HaveBytes [] = Unit {0}
+HaveBytes (l ∷ lines) = HasBytes l × HaveBytes lines
+
+-- no round has a packet without bytes
+abbrev pub AllHaveBytes : List Round → Type 0
+AllHaveBytes [] = Unit {0}
+AllHaveBytes (round ∷ rounds) = HaveBytes round.lines × AllHaveBytes rounds
+
+-- STATUSES
 
 -- the input was read, and is refused
 abbrev pub IsRefusal : Status → Type 0

@@ -2,10 +2,9 @@
 ghost use Rattle.std.specs.Prelude.{◌≡◌, ◌≤◌, ◌<◌, IfOk, IfErr, OnOk, Ok};
 ghost use Rattle.lvs_model.specs.Captured.{captured as spec_captured};
 ghost use Rattle.lvs_model.specs.CaptureFiles.{capture_of};
-ghost use Rattle.lvs_model.specs.ScriptLimits.{IsWithinLimits};
 ghost use Rattle.lvs_model.specs.Tasks.{script_given, capture_given};
-ghost use Rattle.lvs_pcap.specs.Reading.{AreInSeconds};
-ghost use Rattle.lvs_tidy_run.specs.Made.{script_made, CanBeAsked, IsRefusedBy, capture_status};
+ghost use Rattle.lvs_tidy_run.specs.Asked.{CanBeAsked};
+ghost use Rattle.lvs_tidy_run.specs.Made.{script_made, IsRefusedBy, capture_status};
 
 use crate::parts::two_parts;
 use crate::words::Asked;

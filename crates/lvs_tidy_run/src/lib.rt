@@ -2,11 +2,14 @@
 #![tactic(auto)]
 
 mod given;
+mod input;
+mod laws;
 mod parts;
 mod serving;
 #[cfg(test)]
 mod tests;
 mod words;
 
+pub use laws::{capture_plays_what_is_printed, captured_scripts_are_read_again};
 pub use serving::serve_script;
 pub use words::Asked;

@@ -1,37 +1,24 @@
 //! The call that the program makes.
-ghost use Rattle.std.specs.Prelude.{◌≡◌, ◌≢◌, ◌≤◌, ◌+◌, ◌↔◌, ℕ, List, map, length, Ok, Err, IfOk, IfErr, string_bytes};
-ghost use Rattle.std.specs.Io.KnownBytes.{Consumes, IsAtEnd, Appends};
+ghost use Rattle.std.specs.Prelude.{◌≡◌, ◌≢◌, ◌≤◌, ◌+◌, ◌↔◌, ◌⊎◌, ℕ, List, map, length, Some, Ok, Err, IfOk, IfErr, string_bytes};
+ghost use Rattle.std.specs.Io.KnownBytes.{Consumes, Appends};
 ghost use Rattle.lvs_types.specs.Limits.{max_input};
 ghost use Rattle.lvs_types.specs.declared.script.Script.{Script};
+ghost use Rattle.lvs_types.specs.declared.status.Status.{Status as StatusSeen};
 ghost use Rattle.lvs_outside.specs.Faults.{Rose, AppendsProperPrefix};
+ghost use Rattle.lvs_model.specs.Scripts.{script_of};
 ghost use Rattle.lvs_tidy.specs.ScriptTexts.{script_text};
 ghost use Rattle.lvs_tidy_run.specs.declared.words.Asked.{Asked as AskedSeen};
-ghost use Rattle.lvs_tidy_run.specs.Asked.{asked_of};
-ghost use Rattle.lvs_tidy_run.specs.Made.{script_made, CanBeAsked, IsRefusal, IsUnread, IsRefusedBy};
+ghost use Rattle.lvs_tidy_run.specs.Answers.{IsAnswer, IsWritten};
+ghost use Rattle.lvs_tidy_run.specs.Asked.{asked_of, CanBeAsked, IsGiven};
+ghost use Rattle.lvs_tidy_run.specs.Made.{script_made, AllHaveBytes, IsRefusal, IsRefusedBy};
 
 use crate::given::given_captured;
+use crate::input::read_input;
 use crate::words::{Asked, asked};
-use lvs_outside::{ReadStop, Sink, Source, read_all, write_all};
+use lvs_outside::{Sink, Source, write_all};
 use lvs_tidy::print_script;
 use lvs_types::{Bytes, Status};
 use std::alloc::Global;
-
-/// The whole input, or the status of one that wasn't read to its end.
-fn read_input<S: Source>(alloc: Global, source: &mut S) -> Result<Vec<u8>, Status>
-    ensures whole { IfOk result (λ bytes. Consumes (S.left source.old) (S.left source.new) bytes.items) }
-    ensures end { IfOk result (λ bytes. IsAtEnd (S.left source.new)) }
-    ensures fault { result ≡ Err Status.ReadFault → Rose (S.faults source.old) (S.faults source.new) }
-    ensures kept { result ≢ Err Status.ReadFault → S.faults source.new ≡ S.faults source.old }
-    ensures too_long { result ≡ Err Status.ScriptTooLong → (bytes : List ℕ) × (length bytes ≡ max_input + 1) × Consumes (S.left source.old) (S.left source.new) bytes }
-    ensures unread { IfErr result IsUnread }
-{
-    match read_all(alloc, source) {
-        Ok(bytes) => Ok(bytes),
-        Err(ReadStop::Fault) => Err(Status::ReadFault),
-        Err(ReadStop::TooLong) => Err(Status::ScriptTooLong),
-        Err(ReadStop::NoMemory) => Err(Status::NoMemory),
-    }
-}
 
 /// The text of the script that an input makes, or the status with which the input is refused.
 fn text_of(alloc: Global, asked: Asked, input: &[u8]) -> Result<Bytes, Status>
@@ -46,11 +33,9 @@ fn text_of(alloc: Global, asked: Asked, input: &[u8]) -> Result<Bytes, Status>
     }
 }
 
-/// Writes a text whole, or a prefix of it.
+/// Writes a text whole, or a prefix of it that isn't all.
 fn write_text<K: Sink>(sink: &mut K, text: &[u8]) -> Status
-    ensures all { result ≡ Status.Finished → Appends (K.written sink.old) (K.written sink.new) text.now }
-    ensures part { result ≡ Status.WriteFault → AppendsProperPrefix (K.written sink.old) (K.written sink.new) text.now }
-    ensures only { result ≢ Status.Finished → result ≡ Status.WriteFault }
+    ensures written { IsWritten text.now (K.written sink.old) (K.written sink.new) result }
     ensures rose { result ≡ Status.WriteFault → Rose (K.faults sink.old) (K.faults sink.new) }
     ensures kept { result ≢ Status.WriteFault → K.faults sink.new ≡ K.faults sink.old }
 {
@@ -60,35 +45,55 @@ fn write_text<K: Sink>(sink: &mut K, text: &[u8]) -> Status
     }
 }
 
+/// Writes the text of the script that an input makes.
+fn print_made<K: Sink>(alloc: Global, asked: Asked, input: &[u8], sink: &mut K) -> Status
+    requires { CanBeAsked asked }
+    ensures answer { IsAnswer (script_made asked input.now) (K.written sink.old) (K.written sink.new) result }
+    ensures again { (script : Script) → script_made asked input.now ≡ Ok script → AllHaveBytes script.rounds → script_of (script_text script) ≡ Ok script }
+    ensures rose { result ≡ Status.WriteFault → Rose (K.faults sink.old) (K.faults sink.new) }
+    ensures kept { result ≢ Status.WriteFault → K.faults sink.new ≡ K.faults sink.old }
+{
+    match text_of(alloc, asked, input) {
+        Ok(text) => write_text(sink, text.as_slice()),
+        Err(status) => status,
+    }
+}
+
 /// Reads what `ipvsd capture NET BITS STEP` reads, a script, a line `capture` and a capture file, and
-/// writes the script with the rounds of the capture behind it, as text. The text is whole before its
-/// first byte is written.
+/// writes the script with the rounds of the capture behind it, as text. That text is read as the same
+/// script, unless the capture has a packet without a byte, which no script can spell.
+///
+/// The words are read first, then the whole source, then the script, then the capture; they are
+/// refused as `capture` refuses them, the words by their numbers from 0, and nothing is written then.
+/// The text is whole before its first byte is written: after want of memory nothing was written, after
+/// a write fault a prefix that isn't all.
 pub fn serve_script<S: Source, K: Sink>(
     alloc: Global,
     words: &[String],
     source: &mut S,
     sink: &mut K,
 ) -> Status
-    ensures printed { result ≡ Status.Finished → (given : AskedSeen) × (input : List ℕ) × (script : Script) × (asked_of (map string_bytes words.now) ≡ Ok given) × Consumes (S.left source.old) (S.left source.new) input × IsAtEnd (S.left source.new) × (script_made given input ≡ Ok script) × Appends (K.written sink.old) (K.written sink.new) (script_text script) }
-    ensures refusal { IsRefusal result → (given : AskedSeen) × (input : List ℕ) × (asked_of (map string_bytes words.now) ≡ Ok given) × Consumes (S.left source.old) (S.left source.new) input × IsAtEnd (S.left source.new) × (script_made given input ≡ Err result) }
+    ensures printed { result ≡ Status.Finished → (given : AskedSeen) × (input : List ℕ) × (script : Script) × IsGiven (map string_bytes words.now) (S.left source.old) (S.left source.new) given input × (script_made given input ≡ Ok script) × Appends (K.written sink.old) (K.written sink.new) (script_text script) × (AllHaveBytes script.rounds → script_of (script_text script) ≡ Ok script) }
+    ensures refusal { IsRefusal result → (given : AskedSeen) × (input : List ℕ) × IsGiven (map string_bytes words.now) (S.left source.old) (S.left source.new) given input × (script_made given input ≡ Err result) }
+    ensures complete { (given : AskedSeen) (input : List ℕ) (script : Script) → asked_of (map string_bytes words.now) ≡ Ok given → S.left source.old ≡ Some input → length input ≤ max_input → script_made given input ≡ Ok script → (Rose (S.faults source.old) (S.faults source.new) → ⊥) → (Rose (K.faults sink.old) (K.faults sink.new) → ⊥) → (result ≡ Status.Finished) ⊎ (result ≡ Status.NoMemory) }
+    ensures refused_too { (given : AskedSeen) (input : List ℕ) (refused : StatusSeen) → asked_of (map string_bytes words.now) ≡ Ok given → S.left source.old ≡ Some input → length input ≤ max_input → script_made given input ≡ Err refused → (Rose (S.faults source.old) (S.faults source.new) → ⊥) → (result ≡ refused) ⊎ (result ≡ Status.NoMemory) }
+    ensures write_fault { result ≡ Status.WriteFault → (given : AskedSeen) × (input : List ℕ) × (script : Script) × IsGiven (map string_bytes words.now) (S.left source.old) (S.left source.new) given input × (script_made given input ≡ Ok script) × AppendsProperPrefix (K.written sink.old) (K.written sink.new) (script_text script) }
+    ensures nothing { result ≢ Status.Finished → result ≢ Status.WriteFault → K.written sink.new ≡ K.written sink.old }
     ensures words { (at : ℕ) → (result ≡ Status.WordsRefused at) ↔ (asked_of (map string_bytes words.now) ≡ Err at) }
     ensures too_long { result ≡ Status.ScriptTooLong → (bytes : List ℕ) × (length bytes ≡ max_input + 1) × Consumes (S.left source.old) (S.left source.new) bytes }
-    ensures nothing { result ≢ Status.Finished → result ≢ Status.WriteFault → K.written sink.new ≡ K.written sink.old }
+    ensures short { result ≢ Status.ScriptTooLong → result ≢ Status.NoMemory → (bytes : List ℕ) × (length bytes ≤ max_input) × Consumes (S.left source.old) (S.left source.new) bytes }
+    ensures limit { (bytes : List ℕ) × (length bytes ≤ max_input + 1) × Consumes (S.left source.old) (S.left source.new) bytes }
     ensures source_rose { result ≡ Status.ReadFault → Rose (S.faults source.old) (S.faults source.new) }
     ensures source_kept { result ≢ Status.ReadFault → S.faults source.new ≡ S.faults source.old }
     ensures sink_rose { result ≡ Status.WriteFault → Rose (K.faults sink.old) (K.faults sink.new) }
     ensures sink_kept { result ≢ Status.WriteFault → K.faults sink.new ≡ K.faults sink.old }
 {
-    let asked = match asked(words) {
-        Ok(asked) => asked,
+    let given = match asked(words) {
+        Ok(given) => given,
         Err(at) => return Status::WordsRefused { at },
     };
-    let input = match read_input(alloc, source) {
-        Ok(input) => input,
-        Err(status) => return status,
-    };
-    match text_of(alloc, asked, &input) {
-        Ok(text) => write_text(sink, text.as_slice()),
+    match read_input(alloc, source) {
+        Ok(input) => print_made(alloc, given, &input, sink),
         Err(status) => status,
     }
 }

@@ -2,8 +2,7 @@
 ghost use Rattle.std.specs.Prelude.{◌≡◌, ◌≤◌, ◌<◌, map, IfOk, IfSome, string_bytes};
 ghost use Rattle.lvs_model.specs.Decimals.{addr_of, number_of, number_between};
 ghost use Rattle.lvs_model.specs.ProgramWords.{word_at};
-ghost use Rattle.lvs_tidy_run.specs.Asked.{asked_of};
-ghost use Rattle.lvs_tidy_run.specs.Made.{CanBeAsked};
+ghost use Rattle.lvs_tidy_run.specs.Asked.{asked_of, CanBeAsked};
 
 use lvs_admin::{read_addr, read_number};
 use lvs_types::Addr;

@@ -1,4 +1,4 @@
-use Rattle.std.proofs.Common.{List, [], ◌∷◌, ℕ}
+use Rattle.std.proofs.Common.{[], ◌∷◌}
 use Rattle.std.specs.Prelude.{codes}
 use Rattle.lvs_model.specs.Listings.{endpoint_text}
 use Rattle.lvs_tidy.specs.CommandWords.{key_option, key_value}

@@ -1,4 +1,4 @@
-use Rattle.std.proofs.Common.{◌≡◌, List, ℕ, Ok, sym, ap, ◌∙◌}
+use Rattle.std.proofs.Common.{ap, ◌∙◌}
 use Rattle.lvs_model.specs.Scripts.{script_of}
 use Rattle.lvs_tidy.proofs.ReadAgain.{script_again}
 use Rattle.lvs_tidy.proofs.Spaces.{if_ok}

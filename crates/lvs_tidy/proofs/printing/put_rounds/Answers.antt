@@ -1,4 +1,4 @@
-use Rattle.std.proofs.Common.{◌≡◌, ◌+◌, ◌++◌, drop, arith}
+use Rattle.std.proofs.Common.{◌+◌, ◌++◌, drop, arith}
 use Rattle.lvs_tidy.specs.ScriptTexts.{rounds_lines, with_feeds}
 use Rattle.lvs_tidy.proofs.Spaces.{next_round, rounds_step}
 use Rattle.lvs_tidy.proofs.printing.put_rounds.Goals as goal

@@ -1,4 +1,4 @@
-use Rattle.std.proofs.Common.{◌≡◌, ◌++◌, List, [], ◌∷◌, ℕ, ap, ◌∙◌, append_assoc}
+use Rattle.std.proofs.Common.{◌++◌, List, [], ◌∷◌, ℕ, ap, ◌∙◌, append_assoc}
 use Rattle.std.specs.Prelude.{codes}
 use Rattle.lvs_types.specs.Schedulers.{scheduler_name}
 use Rattle.lvs_tidy.specs.CommandWords.{key_option, key_value, persist_words, mask_words, one_packet_words}
