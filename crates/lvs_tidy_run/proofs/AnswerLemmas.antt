@@ -236,3 +236,6 @@ unread_refusal (status.ScriptRefused line why) is refused = is
 unread_refusal (status.WordsRefused at) is refused = is
 unread_refusal (status.Illegal verdict) is refused = is
 unread_refusal (status.CaptureRefused at why) is refused = is
+
+pub error_is : {A : Type 0} (s t : Status) → ◌≡◌ {A = Result A Status} (Err s) (Err t) → s ≡ t
+error_is s t e = cc

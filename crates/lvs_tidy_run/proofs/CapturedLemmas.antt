@@ -1,9 +1,7 @@
 -- A captured script is printed as a text that is read as it.
-use Rattle.std.proofs.Common.{◌≡◌, ◌≢◌, ℕ, zero, suc, ◌+◌, ◌-◌, ◌*◌, ◌%◌, ◌≤◌, ◌<◌, ◌==◌, Bool, true, false, ◌&&◌, cond, max, nat_lt, nat_le, List, [], ◌∷◌, ◌++◌, length, take, drop, slice_index, Option, Some, None, Result, Ok, Err, refl, sym, ap, subst, ◌∙◌, arith}
-use Rattle.std.specs.Prelude.{codes, slice_range}
+use Rattle.std.proofs.Common.{◌≡◌, ◌≢◌, ℕ, zero, suc, ◌+◌, ◌≤◌, ◌<◌, ◌==◌, Bool, true, false, ◌&&◌, cond, nat_lt, List, [], ◌∷◌, ◌++◌, length, take, drop, Option, Some, None, Result, Ok, Err, refl, sym, subst, ◌∙◌, arith}
 use Rattle.std.proofs.lemmas.Bool.Decides.{nat_tests}
 use Rattle.hex.specs.Hex.{IsBytes}
-use Rattle.lvs_types.specs.Limits.{max_moment}
 use Rattle.lvs_types.specs.declared.addr.Addr.{Addr}
 use Rattle.lvs_types.specs.declared.capture.Capture.{Capture}
 use Rattle.lvs_types.specs.declared.capture.Frame.{Frame}
@@ -11,17 +9,19 @@ use Rattle.lvs_types.specs.declared.script.Script.{Script}
 use Rattle.lvs_types.specs.declared.script.Round.{Round}
 use Rattle.lvs_types.specs.declared.script.ScriptLine.{ScriptLine}
 use Rattle.lvs_types.specs.declared.script.ScriptLine.TheVariants as line
+use Rattle.lvs_types.specs.declared.status.Status.{Status}
 use Rattle.lvs_model.specs.declared.capture.BadCapture.{BadCapture}
+use Rattle.lvs_model.specs.declared.script.BadLine.{BadLine}
 use Rattle.lvs_model.specs.CaptureFiles.{ip_of, is_ipv4, raw_ip, ethernet}
 use Rattle.lvs_model.specs.Captured.{CapturedPacket, moment_after, packet_then, packets_from, packets_behind, is_outgoing, packet_line, line_before, rounds_of, first_refusal, with_rounds, last_moment, captured}
 use Rattle.lvs_model.specs.ScriptLimits.{items_in, IsWithinLimits}
 use Rattle.lvs_model.specs.Scripts.{script_of}
+use Rattle.lvs_model.specs.Tasks.{script_behind}
 use Rattle.lvs_tidy.specs.ScriptTexts.{script_text}
-use Rattle.lvs_tidy.proofs.Hexes.{AreBytes}
 use Rattle.lvs_tidy.proofs.Packets.{incoming_made, outgoing_made}
 use Rattle.lvs_tidy.proofs.Printed.{IsPrinted}
-use Rattle.lvs_tidy.proofs.MoreRounds.{AreRising, ArePrinted, AreAllPrinted, behind, behind_again}
-use Rattle.lvs_tidy_run.specs.Made.{HasBytes, HaveBytes, AllHaveBytes}
+use Rattle.lvs_tidy.proofs.MoreRounds.{AreRising, AreAllPrinted, behind, behind_again}
+use Rattle.lvs_tidy_run.specs.Made.{HasBytes, AllHaveBytes}
 
 -- MOMENTS
 
@@ -115,7 +115,7 @@ bytes_packets link step at before (frame ∷ frames) are =
 
 some_length : (bytes : List ℕ) → bytes ≢ [] → (length bytes == 0) ≡ false
 some_length [] some = absurd (some refl)
-some_length (b ∷ bytes) some = refl
+some_length (b ∷ bytes) some = grind (arith, nat_tests)
 
 line_is_printed : (out : Bool) (bytes : List ℕ) → IsBytes bytes → HasBytes (cond out (line.Outgoing bytes) (line.Incoming 0 bytes)) → IsPrinted (cond out (line.Outgoing bytes) (line.Incoming 0 bytes))
 line_is_printed true bytes are some = outgoing_made bytes (record { some = some_length bytes some; all = are })
@@ -156,3 +156,15 @@ captured_again given net bits step script whole capture read is within hold have
     let rising : AreRising (last_moment script.rounds) made = rising_rounds net bits (last_moment script.rounds) packets (later_packets capture.link step 1 (last_moment script.rounds) capture.frames) in
     let printed : AreAllPrinted made = printed_rounds net bits packets (bytes_packets capture.link step 1 (last_moment script.rounds) capture.frames hold) (last_have script.rounds made full) in
     subst (λ (s : Script). script_of (script_text s) ≡ Ok s) same (behind_again given script made read limits rising printed)
+
+-- a script that a text was found to spell
+pub given_is : (r : Result Script BadLine) (script : Script) → script_behind 0 r ≡ Ok script → r ≡ Ok script
+given_is (Ok other) script e = cc
+given_is (Err bad) script e = absurd cc
+
+-- one script is made
+pub again_of : (r : Result Script Status) (found script : Script) → r ≡ Ok found → r ≡ Ok script → (AllHaveBytes found.rounds → script_of (script_text found) ≡ Ok found) → AllHaveBytes script.rounds → script_of (script_text script) ≡ Ok script
+again_of r found script one two again =
+    let both : ◌≡◌ {A = Result Script Status} (Ok found) (Ok script) = sym one ∙ two in
+    let same : found ≡ script = cc in
+    subst (λ (s : Script). AllHaveBytes s.rounds → script_of (script_text s) ≡ Ok s) same again

@@ -1,2 +1,5 @@
 mod PartLemmas
+mod AnswerLemmas
 mod Makings
+mod CapturedLemmas
+mod FileBytes

@@ -14,7 +14,7 @@ use Rattle.lvs_model.specs.Tasks.{Task, script_behind, script_given, capture_giv
 use Rattle.lvs_model.specs.CaptureFiles.{capture_of}
 use Rattle.lvs_model.specs.Captured.{captured}
 use Rattle.lvs_tidy_run.specs.declared.words.Asked.{Asked}
-use Rattle.lvs_tidy_run.specs.Made.{script_in, script_made, played, IsRefusal}
+use Rattle.lvs_tidy_run.specs.Made.{script_in, script_made, played}
 use Rattle.lvs_tidy_run.proofs.AnswerLemmas.{IsReady}
 
 in_parts : (asked : Asked) (parts : Parts) (script whole : Script) (capture : Capture) → script_given parts.first ≡ Ok script → capture_of parts.second ≡ Ok capture → captured asked.net asked.bits asked.step script capture ≡ Ok whole → script_in asked parts ≡ Ok whole

@@ -2,7 +2,6 @@
 use Rattle.std.specs.Prelude.{◌≡◌, ℕ, ◌≤◌, ◌<◌, List, length, Option, Result, Ok, Err, if◌then◌else◌, nat_le}
 use Rattle.std.specs.Io.KnownBytes.{Consumes, IsAtEnd}
 use Rattle.lvs_types.specs.Limits.{max_capture_step}
-use Rattle.lvs_types.specs.declared.addr.Addr.{Addr}
 use Rattle.lvs_model.specs.Decimals.{number_of, number_between, addr_of}
 use Rattle.lvs_model.specs.ProgramWords.{word_at}
 use Rattle.lvs_model.specs.Refusals.{◌>>=◌}

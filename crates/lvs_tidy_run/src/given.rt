@@ -1,10 +1,14 @@
 //! The script that an input makes.
 ghost use Rattle.std.specs.Prelude.{◌≡◌, ◌≤◌, ◌<◌, IfOk, IfErr, OnOk, Ok};
+ghost use Rattle.hex.specs.Hex.{IsBytes};
 ghost use Rattle.lvs_model.specs.Captured.{captured as spec_captured};
 ghost use Rattle.lvs_model.specs.CaptureFiles.{capture_of};
+ghost use Rattle.lvs_model.specs.Scripts.{script_of};
 ghost use Rattle.lvs_model.specs.Tasks.{script_given, capture_given};
 ghost use Rattle.lvs_tidy_run.specs.Asked.{CanBeAsked};
-ghost use Rattle.lvs_tidy_run.specs.Made.{script_made, IsRefusedBy, capture_status};
+ghost use Rattle.lvs_pcap.specs.Reading.{AreInSeconds};
+ghost use Rattle.lvs_tidy.specs.ScriptTexts.{script_text};
+ghost use Rattle.lvs_tidy_run.specs.Made.{script_made, AllHaveBytes, IsRefusedBy, capture_status};
 
 use crate::parts::two_parts;
 use crate::words::Asked;
@@ -41,6 +45,8 @@ fn refused_capture(refused: &CaptureRefused) -> Status
 /// The capture that bytes hold, or the status of its first refused record.
 fn given_capture(alloc: Global, bytes: &[u8]) -> Result<Capture, Status>
     ensures accepted { IfOk result (λ capture. capture_of bytes.now ≡ Ok capture) }
+    ensures seconds { IfOk result (λ capture. AreInSeconds capture.frames) }
+    ensures bytes { IsBytes bytes.now }
     ensures refused { IfErr result (IsRefusedBy (capture_given (capture_of bytes.now))) }
 {
     match read_capture(alloc, bytes) {
@@ -72,13 +78,10 @@ fn add_capture(
 
 /// The script with the rounds of the capture behind it, or the status of the first refused line, and
 /// then of the first refused record.
-pub(crate) fn given_captured(
-    alloc: Global,
-    asked: Asked,
-    input: &[u8],
-) -> Result<Script, Status>
+pub(crate) fn given_captured(alloc: Global, asked: Asked, input: &[u8]) -> Result<Script, Status>
     requires { CanBeAsked asked }
     ensures accepted { IfOk result (λ whole. script_made asked input.now ≡ Ok whole) }
+    ensures again { IfOk result (λ whole. AllHaveBytes whole.rounds → script_of (script_text whole) ≡ Ok whole) }
     ensures refused { IfErr result (IsRefusedBy (script_made asked input.now)) }
 {
     let parts = two_parts(b"capture", input);

@@ -10,6 +10,6 @@ mod serving;
 mod tests;
 mod words;
 
-pub use laws::{capture_plays_what_is_printed, captured_scripts_are_read_again};
+pub use laws::capture_plays_what_is_printed;
 pub use serving::serve_script;
 pub use words::Asked;

@@ -14,7 +14,7 @@ ghost use Rattle.lvs_tidy_run.specs.Made.{script_made, AllHaveBytes, IsRefusal, 
 
 use crate::given::given_captured;
 use crate::input::read_input;
-use crate::words::{Asked, asked};
+use crate::words::{Asked, read_asked};
 use lvs_outside::{Sink, Source, write_all};
 use lvs_tidy::print_script;
 use lvs_types::{Bytes, Status};
@@ -23,7 +23,7 @@ use std::alloc::Global;
 /// The text of the script that an input makes, or the status with which the input is refused.
 fn text_of(alloc: Global, asked: Asked, input: &[u8]) -> Result<Bytes, Status>
     requires { CanBeAsked asked }
-    ensures made { IfOk result (λ text. (script : Script) × (script_made asked input.now ≡ Ok script) × (text ≡ script_text script)) }
+    ensures made { IfOk result (λ text. (script : Script) × (script_made asked input.now ≡ Ok script) × (text ≡ script_text script) × (AllHaveBytes script.rounds → script_of (script_text script) ≡ Ok script)) }
     ensures refused { IfErr result (IsRefusedBy (script_made asked input.now)) }
 {
     let script = given_captured(alloc, asked, input)?;
@@ -49,7 +49,7 @@ fn write_text<K: Sink>(sink: &mut K, text: &[u8]) -> Status
 fn print_made<K: Sink>(alloc: Global, asked: Asked, input: &[u8], sink: &mut K) -> Status
     requires { CanBeAsked asked }
     ensures answer { IsAnswer (script_made asked input.now) (K.written sink.old) (K.written sink.new) result }
-    ensures again { (script : Script) → script_made asked input.now ≡ Ok script → AllHaveBytes script.rounds → script_of (script_text script) ≡ Ok script }
+    ensures again { result ≡ Status.Finished → (script : Script) → script_made asked input.now ≡ Ok script → AllHaveBytes script.rounds → script_of (script_text script) ≡ Ok script }
     ensures rose { result ≡ Status.WriteFault → Rose (K.faults sink.old) (K.faults sink.new) }
     ensures kept { result ≢ Status.WriteFault → K.faults sink.new ≡ K.faults sink.old }
 {
@@ -88,7 +88,7 @@ pub fn serve_script<S: Source, K: Sink>(
     ensures sink_rose { result ≡ Status.WriteFault → Rose (K.faults sink.old) (K.faults sink.new) }
     ensures sink_kept { result ≢ Status.WriteFault → K.faults sink.new ≡ K.faults sink.old }
 {
-    let given = match asked(words) {
+    let given = match read_asked(words) {
         Ok(given) => given,
         Err(at) => return Status::WordsRefused { at },
     };

@@ -79,7 +79,7 @@ fn step_at(at: usize, words: &[String]) -> Result<u32, usize>
 
 /// What the words ask for, or the number of the first one that is refused; a word that is missing
 /// has the number of words.
-pub(crate) fn asked(words: &[String]) -> Result<Asked, usize>
+pub(crate) fn read_asked(words: &[String]) -> Result<Asked, usize>
     ensures value { result ≡ asked_of (map string_bytes words.now) }
     ensures asked { IfOk result CanBeAsked }
 {
