@@ -47,12 +47,12 @@ def stand_in(path):
     """A launcher that starts the proved programs and never builds one."""
     crates = os.path.join(ROOT, "crates")
     with open(path, "w", encoding="utf-8") as launcher:
-        launcher.write('#!/bin/sh\nif [ "$1" = chart ]; then\n    shift\n    exec "%s/ipvsd_chart/out/ipvsd_chart" "$@"\nfi\nexec "%s/ipvsd/out/ipvsd" "$@"\n' % (crates, crates))
+        launcher.write('#!/bin/sh\nname=ipvsd\ncase $1 in\nchart | script)\n    name=ipvsd_$1\n    shift\n    ;;\nesac\nexec "%s/$name/out/$name" "$@"\n' % crates)
     os.chmod(path, 0o755)
 
 
 def main():
-    for name in ("ipvsd", "ipvsd_chart"):
+    for name in ("ipvsd", "ipvsd_chart", "ipvsd_script"):
         if not os.access(os.path.join(ROOT, "crates", name, "out", name), os.X_OK):
             print("readme: skipped, no proved program of %s" % name)
             return 0

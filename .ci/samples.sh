@@ -46,10 +46,10 @@ printer=$root/crates/ipvsd_script/out/ipvsd_script
 if [ -x "$printer" ]; then
     head -c 24 capture.pcap >"$room/none"
     for script in *.ipvs; do
-        { cat "$script"; echo capture; cat "$room/none"; } | "$printer" 0.0.0.0 32 1 >"$room/printed" 2>"$room/error" || differ "$script" "$(head -n 1 "$room/error")"
+        { cat "$script"; echo capture; cat "$room/none"; } | "$printer" 0.0.0.0 0 1 >"$room/printed" 2>"$room/error" || differ "$script" "$(head -n 1 "$room/error")"
         "$program" serial <"$room/printed" >"$room/report"
         cmp -s "${script%.ipvs}.report" "$room/report" || differ "$script" "printed and run it gives another report"
-        { cat "$room/printed"; echo capture; cat "$room/none"; } | "$printer" 0.0.0.0 32 1 >"$room/again"
+        { cat "$room/printed"; echo capture; cat "$room/none"; } | "$printer" 0.0.0.0 0 1 >"$room/again"
         cmp -s "$room/printed" "$room/again" || differ "$script" "printed twice it differs"
     done
 fi
