@@ -32,7 +32,7 @@ for script in *.ipvs; do
     cmp -s "$name.report" "$room/report" || differ "$name" "the report isn't the one beside it"
     { cat "$script"; echo report; cat "$name.report"; } | "$program" check >"$room/verdict" 2>"$room/error"
     [ "$(cat "$room/verdict")" = legal ] || differ "$name" "the report beside it isn't legal"
-    for crew in "1 1" "4 16" "16 256"; do
+    for crew in "1 1" "4 1" "4 16" "16 256"; do
         # The words of a crew are to be split.
         # shellcheck disable=SC2086
         "$program" run $crew <"$script" >"$room/report" 2>"$room/error" || differ "$name" "$(head -n 1 "$room/error")"

@@ -1,7 +1,8 @@
 //! Threads and demonstrations through the top call.
-use crate::serve_streams;
 use crate::tests::{Outcome, SCRIPT, served};
-use lvs_outside::OpenGate;
+use crate::{serve, serve_streams};
+use lvs_outside::{MemSink, MemSource, OpenGate};
+use lvs_report::print_round;
 use lvs_types::{NoMemory, Status};
 use std::alloc::Global;
 use std::io::Cursor;
@@ -61,6 +62,28 @@ fn a_demonstration_ends_with_its_summary(rt: HostRuntime) -> Result<(), Fail> {
     assert_eq!(rt; run.status, Status::Finished);
     assert_eq!(rt; run.rounds, 3);
     assert_eq!(rt; run.text.as_slice(), SUMMARY);
+    Ok(())
+}
+
+/// The first round's text stands, and nothing of the second one's.
+#[test]
+fn a_write_that_fails_in_the_second_round_keeps_the_first(rt: HostRuntime) -> Result<(), Fail> {
+    let alloc = rt.alloc();
+    let mut words = Vec::new(alloc);
+    for word in ["run", "4", "16"] {
+        words.push(String::from_str(alloc, word)?)?;
+    }
+    let script =
+        b"local 10.0.0.254\nat 0\nipvs -A -t 10.0.0.1:80 -s rr\nat 1\nipvs -D -t 10.0.0.1:80\n";
+    let mut source = MemSource::new(script.to_vec(alloc)?, 1000, Vec::new(alloc));
+    let mut fails = Vec::new(alloc);
+    fails.push(1)?;
+    let mut sink = MemSink::new(alloc, 1000, 1000, fails)?;
+    let done = serve(&rt, alloc, &words, &mut source, &mut sink, &OpenGate);
+    assert_eq!(rt; done.status, Status::WriteFault);
+    assert_eq!(rt; done.rounds.len(), 2);
+    let first = done.rounds.first().ok_or("no round")?;
+    assert_eq!(rt; sink.bytes(), print_round(alloc, first)?.as_slice());
     Ok(())
 }
 
