@@ -1,0 +1,9 @@
+pub mod Acts
+pub mod Answers
+pub mod Drains
+pub mod Follows
+pub mod Learns
+pub mod Playing
+pub mod Relays
+pub mod Sends
+pub mod TakenOver
