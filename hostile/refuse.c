@@ -1,14 +1,17 @@
 /* Refuses one request for memory of a process: that with the number in the environment's REFUSE, counted from 1. The
-   library is loaded before the C library's own (LD_PRELOAD). Where COUNT names a file, the number of requests is put there. */
+   library is loaded before the C library's own (LD_PRELOAD). Where COUNT names a file of eight bytes, the number of the
+   requests is counted in it: a process may end without a word to its libraries. */
 #define _GNU_SOURCE
 #include <dlfcn.h>
 #include <errno.h>
+#include <fcntl.h>
 #include <stdatomic.h>
 #include <stddef.h>
-#include <stdio.h>
 #include <stdlib.h>
+#include <sys/mman.h>
 
-static atomic_long requests;
+static atomic_long beside;
+static atomic_long *requests = &beside;
 static long refused;
 static void *(*real_malloc)(size_t);
 static void *(*real_realloc)(void *, size_t);
@@ -18,21 +21,15 @@ __attribute__((constructor)) static void begin(void) {
     refused = text ? atol(text) : 0;
     real_malloc = dlsym(RTLD_NEXT, "malloc");
     real_realloc = dlsym(RTLD_NEXT, "realloc");
-    atomic_store(&requests, 0);
-}
-
-__attribute__((destructor)) static void end(void) {
     const char *path = getenv("COUNT");
-    long all = atomic_load(&requests);
-    FILE *out = path ? fopen(path, "w") : NULL;
-    if (out) {
-        fprintf(out, "%ld\n", all);
-        fclose(out);
-    }
+    int file = path ? open(path, O_RDWR) : -1;
+    void *kept = file < 0 ? MAP_FAILED : mmap(NULL, sizeof *requests, PROT_READ | PROT_WRITE, MAP_SHARED, file, 0);
+    if (kept != MAP_FAILED)
+        requests = kept;
 }
 
 static int is_refused(void) {
-    if (atomic_fetch_add(&requests, 1) + 1 == refused) {
+    if (atomic_fetch_add(requests, 1) + 1 == refused) {
         errno = ENOMEM;
         return 1;
     }
