@@ -1,7 +1,7 @@
 #!/usr/bin/env python3
 """Runs scripts with threads again and again, and lets `check` judge each report: all are to be legal.
 
-    hostile/threads.py [--program PROGRAM] [--runs RUNS] [--load LOAD]
+    hostile/threads.py [--program PROGRAM] [--runs RUNS] [--load LOAD] [--only WORD]
 
 Each sample of examples/ and a script of 20,000 connections is run RUNS times (50) with `run 4 16`, while LOAD other processes
 (4) take all the processor time that they get. A script whose report and itself are too long for one input can't be judged, so
@@ -12,6 +12,7 @@ import argparse
 import glob
 import hashlib
 import os
+import signal
 import subprocess
 import sys
 
@@ -54,12 +55,15 @@ def main():
     parser.add_argument("--program", default=PROGRAM)
     parser.add_argument("--runs", type=int, default=50)
     parser.add_argument("--load", type=int, default=4)
+    parser.add_argument("--only", default="")
     given = parser.parse_args()
     if not os.access(given.program, os.X_OK):
         sys.exit("threads: no proved program at %s" % given.program)
+    # A request to end is to end the load, too.
+    signal.signal(signal.SIGTERM, lambda *_: sys.exit(143))
     load = [subprocess.Popen([sys.executable, "-c", "while True: pass"]) for _ in range(given.load)]
     try:
-        failed = sum(judge_all(os.path.abspath(given.program), name, script, given.runs) for name, script in scripts())
+        failed = sum(judge_all(os.path.abspath(given.program), name, script, given.runs) for name, script in scripts() if given.only in name)
     finally:
         for process in load:
             process.kill()
