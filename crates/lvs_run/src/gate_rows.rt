@@ -1,9 +1,9 @@
 //! Runs whose gates hold actors, which show what is under way at the same time.
 use crate::gates::{BothInside, Calls, OneInside};
-use crate::serve_streams;
 use crate::tests::{Outcome, served};
+use crate::{Served, serve_streams};
 use lvs_outside::{Gate, OpenGate};
-use lvs_types::{Addr, Item, NoMemory, Noted, Reply, Status};
+use lvs_types::{Addr, Item, NoMemory, Noted, Reply, RoundBook, Status};
 use std::alloc::Global;
 use std::io::Cursor;
 use std::sync::Wait;
@@ -55,6 +55,18 @@ fn are_by_turns(acts: &[Noted]) -> bool {
     opened == turns.len()
 }
 
+/// Whether the books have each item of the script once, and the connections their servers by turns.
+fn are_as_wanted(rounds: &[RoundBook]) -> bool {
+    match rounds {
+        [first, second] => {
+            first.acts.as_slice().len() == 21
+                && second.acts.as_slice().len() == 22
+                && are_by_turns(second.acts.as_slice())
+        }
+        _ => false,
+    }
+}
+
 /// The text of a run of four workers over sixteen buckets, where it did all of the script, each item
 /// once, and the new connections went to the servers by turns.
 fn run_with<R: Threads + Wait + Sync, G: Gate + Sync>(
@@ -66,7 +78,11 @@ fn run_with<R: Threads + Wait + Sync, G: Gate + Sync>(
     for word in ["run", "4", "16"] {
         words.push(String::from_str(alloc, word)?)?;
     }
-    let run = serve_streams(
+    let Served {
+        done,
+        source: _,
+        sink,
+    } = serve_streams(
         rt,
         alloc,
         &words,
@@ -74,19 +90,14 @@ fn run_with<R: Threads + Wait + Sync, G: Gate + Sync>(
         Vec::new(alloc),
         gate,
     );
-    let [first, second] = run.done.rounds.as_slice() else {
-        return Ok(None);
-    };
-    if first.acts.as_slice().len() != 21
-        || second.acts.as_slice().len() != 22
-        || !are_by_turns(second.acts.as_slice())
-    {
+    if !are_as_wanted(done.rounds.as_slice()) {
         return Ok(None);
     }
+    let rounds = done.rounds.len();
     Ok(Some(Outcome {
-        status: run.done.status,
-        rounds: run.done.rounds.len(),
-        text: run.sink.into_inner(),
+        status: done.status,
+        rounds,
+        text: sink.into_inner(),
     }))
 }
 

@@ -1,6 +1,6 @@
 //! Threads and demonstrations through the top call.
 use crate::tests::{Outcome, SCRIPT, served};
-use crate::{serve, serve_streams};
+use crate::{Served, serve, serve_streams};
 use lvs_outside::{MemSink, MemSource, OpenGate};
 use lvs_report::print_round;
 use lvs_types::{NoMemory, Status};
@@ -25,7 +25,11 @@ fn streamed<R: Threads + Wait + Sync>(
     for word in words {
         list.push(String::from_str(alloc, word)?)?;
     }
-    let run = serve_streams(
+    let Served {
+        done,
+        source: _,
+        sink,
+    } = serve_streams(
         rt,
         alloc,
         &list,
@@ -33,10 +37,11 @@ fn streamed<R: Threads + Wait + Sync>(
         Vec::new(alloc),
         &OpenGate,
     );
+    let rounds = done.rounds.len();
     Ok(Outcome {
-        status: run.done.status,
-        rounds: run.done.rounds.len(),
-        text: run.sink.into_inner(),
+        status: done.status,
+        rounds,
+        text: sink.into_inner(),
     })
 }
 
